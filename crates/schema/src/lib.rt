@@ -1,0 +1,2 @@
+// A schema: the tree of a batch's columns.
+pub mod settings;
