@@ -2,20 +2,16 @@
 use mathlib.Core.Bool.{Bool, cond, _||_, _&&_}
 use mathlib.Core.List.{List, [], _∷_, map}
 use mathlib.Core.Option.{Option, none, some}
-use Prim.Native.Nat.{ℕ, _+_}
+use Prim.Native.Nat.{ℕ}
 use lib.Dec.{eqb, ltb}
 use lib.ListN.{length, getD, set, replicate}
-use Rattle.bytes.specs.Lists.{same}
+use Rattle.std.specs.declared.option.Option.the-variants.{None, Some}
 use Rattle.schema.specs.Tree.{Field, Fields, Branch, struct, list, fixed, many, names}
 use Rattle.schema.specs.declared.settings.Settings.{Settings}
 use Rattle.tape.specs.Layout.{the}
 use Rattle.tape.specs.View.{TapeView, isAt, entries, wordsAt}
+use Rattle.names.specs.Lowest.{lowest}
 use Rattle.slip.specs.Slips.{slip, Got, refuse, got, then}
-
--- the lowest field with this name
-abbrev pub lowest : List (List ℕ) → List ℕ → Option ℕ
-lowest [] s = none
-lowest (n ∷ ns) s = cond (same n s) (some 0) (elim (lowest ns s) [ none ↦ none | some i ↦ some (i + 1) ])
 
 abbrev pub singles : List ℕ → List (List ℕ)
 singles es = map (λ e. e ∷ []) es
@@ -45,8 +41,8 @@ module _ (s : Settings) (t : TapeView) (f : Field) where
   placed ns (k ∷ []) at = got at
   placed ns (k ∷ (v ∷ rest)) at =
       elim (lowest ns (wordsAt t k)) [
-        | some i ↦ placed ns rest (set at i v)
-        | none ↦ cond (s .strict) (refuse (slip 6 (f .number) k)) (placed ns rest at)
+        | Some i ↦ placed ns rest (set at i v)
+        | None ↦ cond (s .strict) (refuse (slip 6 (f .number) k)) (placed ns rest at)
       ]
 
   abbrev pub itemsAt : Branch → Fields → ℕ → Got (List (List ℕ))

@@ -6,6 +6,7 @@ ghost use Rattle.leaf.specs.Meaning.{Meaning, value};
 ghost use Rattle.leaf.specs.Replies.{replyOf};
 ghost use Rattle.leaf.specs.declared.layout.Layout.{Layout};
 ghost use Rattle.leaf.specs.declared.layout.Reply.{Reply};
+
 pub mod layout;
 
 use layout::Layout;
