@@ -1,9 +1,10 @@
 -- Numbers and bits held in bytes.
 use mathlib.Core.Path.{_≡_}
-use mathlib.Core.Bool.{Bool, false, cond}
+use mathlib.Core.Bool.{Bool, true, false, cond}
 use mathlib.Core.List.{List, [], _∷_, _++_, map}
 use Prim.Native.Nat.{ℕ, zero, suc, _+_, _-_, _*_, _/_, _%_, _^_, _<_, _≤_}
-use lib.ListN.{length, getD, replicate}
+use lib.Bits.{bitOr}
+use lib.ListN.{length, getD, set, replicate}
 use Rattle.bytes.specs.Lists.{part, joined, between}
 
 -- a number in w bytes, the least byte first
@@ -45,6 +46,10 @@ packed bs = map (λ k. weighed (part bs (8 * k) 8)) (between 0 ((length bs + 7) 
 abbrev pub bitIn : List ℕ → ℕ → ℕ
 bitIn bytes j = getD bytes (j / 8) 0 / 2 ^ (j % 8) % 2
 
+-- the bytes with bit k set
+abbrev pub withBit : List ℕ → ℕ → List ℕ
+withBit bytes k = set bytes (k / 8) (bitOr (getD bytes (k / 8) 0) (2 ^ (k % 8)))
+
 -- what was put into bytes is read from them
 abbrev pub NumbersBack : Type 0
 NumbersBack = (w : ℕ) (ns : List ℕ) (k : ℕ) → k < length ns → getD ns k 0 < 256 ^ w → numberIn w (numbers w ns) k ≡ getD ns k 0
@@ -55,3 +60,7 @@ SpareBits = (bs : List Bool) (k : ℕ) → length bs ≤ k → k < 8 * length (p
 
 abbrev pub BitsBack : Type 0
 BitsBack = (bs : List Bool) (k : ℕ) → k < length bs → bitIn (packed bs) k ≡ cond (getD bs k false) 1 0
+
+-- setting a bit of packed bits packs them with that one true
+abbrev pub BitSet : Type 0
+BitSet = (bs : List Bool) (k : ℕ) → k < length bs → withBit (packed bs) k ≡ packed (set bs k true)

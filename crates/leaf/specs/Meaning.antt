@@ -83,11 +83,14 @@ written (i32 z) a = value (signed z)
 written (bool b) a = value (cond b (codes "true") (codes "false"))
 written null a = a
 
+abbrev pub keepsText : Layout → Bool
+keepsText None = false
+keepsText Bit = false
+keepsText Text = true
+keepsText Eight = false
+
 abbrev pub coerced : Layout → Elem → Answer → Answer
-coerced None e a = a
-coerced Bit e a = a
-coerced Text e a = written e a
-coerced Eight e a = a
+coerced l e a = cond (keepsText l) (written e a) a
 
 abbrev pub coerce : Meaning → Meaning
 coerce m = record { layout = m .layout; answer = λ e. coerced (m .layout) e (m .answer e) }

@@ -1,0 +1,10 @@
+pub mod Tests
+pub mod Worth
+pub mod Columns
+pub mod Sized
+pub mod Hidden
+pub mod Records
+pub mod Slots
+pub mod Back
+pub mod Layouts
+pub mod Filled

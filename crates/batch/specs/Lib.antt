@@ -1,0 +1,5 @@
+pub mod Rows
+pub mod Values
+pub mod Format
+pub mod Batch
+pub mod Cells

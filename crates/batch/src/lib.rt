@@ -1,0 +1,1 @@
+// A batch: columns of row values as bytes.

@@ -1,0 +1,4 @@
+pub mod Shelf
+pub mod Calls
+pub mod Laws
+pub mod History

@@ -1,0 +1,1 @@
+// The names of fields, and where each is found.
