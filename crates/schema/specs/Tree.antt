@@ -2,8 +2,8 @@
 use mathlib.Core.Path.{_≡_}
 use mathlib.Core.Bool.{Bool}
 use mathlib.Core.List.{List, [], _∷_, _++_, map as mapped}
-use Prim.Native.Nat.{ℕ, suc}
-use lib.ListN.{length}
+use Prim.Native.Nat.{ℕ, suc, _+_, max}
+use lib.ListN.{length, getD}
 use Rattle.std.specs.shelf.Lists.{All}
 use Rattle.bytes.specs.Lists.{between}
 
@@ -40,6 +40,11 @@ abbrev pub fieldOf : Node → Field
 fieldOf (branch f b cs) = f
 fieldOf (leaf f k) = f
 
+-- what stands right below a node
+abbrev pub childrenOf : Node → Fields
+childrenOf (branch f b cs) = cs
+childrenOf (leaf f k) = Fields.none
+
 -- how many fields, and their names
 abbrev pub many : Fields → ℕ
 many Fields.none = 0
@@ -58,6 +63,20 @@ abbrev mutual
   pub nodesIn : Fields → List Node
   nodesIn Fields.none = []
   nodesIn (c ⊕ cs) = nodes c ++ nodesIn cs
+
+-- node i of a tree
+abbrev pub nodeAt : Node → ℕ → Node
+nodeAt root i = getD (nodes root) i root
+
+-- how many levels stand one below another
+abbrev mutual
+  pub levels : Node → ℕ
+  levels (branch f b cs) = 1 + levelsIn cs
+  levels (leaf f k) = 1
+
+  pub levelsIn : Fields → ℕ
+  levelsIn Fields.none = 0
+  levelsIn (c ⊕ cs) = max (levels c) (levelsIn cs)
 
 -- a list, a list-view and a fixed-size list have one child, and a map has a key and a value
 abbrev pub Childed : Node → Type 0
