@@ -1,0 +1,4 @@
+pub mod Cells
+pub mod Tallies
+pub mod Starts
+pub mod Sizes

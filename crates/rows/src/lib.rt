@@ -3,6 +3,11 @@ ghost use Rattle.rows.specs.Entering.{BranchEntered};
 use schema::settings::Settings;
 use tape::Tape;
 
+mod entries;
+mod kind;
+mod lists;
+mod passes;
+
 // How the rows of a node are read.
 #[derive(Clone, Copy)]
 pub struct Reading<'a> {
