@@ -21,7 +21,7 @@ use Rattle.leaf.specs.declared.layout.Layout.the-variants.{None, Bit, Text, Eig
 use Rattle.slip.specs.Slips.{Got, got, then, each}
 use Rattle.batch.specs.Values.{Setup, Value, Item, meaning, hides, taken}
 use Rattle.batch.specs.Format.{Column, isValid, offset, extent, span, leafIn, textWidth, valueIn, itemIn}
-use Rattle.batch.specs.Batch.{branchColumn, leafColumn, hiddenItem, columns, columnsIn, recordIn, columnIn}
+use Rattle.batch.specs.Batch.{branchColumn, leafColumn, hiddenItem, columns, columnsIn, wordIn, columnIn}
 use Rattle.batch.specs.Cells.{Cell, cellOf, branchCell, leafCell, lying, cellIn, read, readItem}
 use Rattle.batch.proofs.Records.{AllStored, stored-append}
 use Rattle.batch.proofs.Sized.{Present, Counted, Sized, SizedItem, hidden-sized-item}
@@ -129,7 +129,7 @@ data-lies page all (b ∷ bs) base place size holds e =
 
 module _ (st : Setup) (all : List ℕ) where
   -- how many slots a node has
-  pub slots-are : (c : Node) (os : List (Value c)) (i : ℕ) → AllStored all i (columns st c os) → (recordIn all i 0 ≡ length os) × (length os < 2 ^ 31)
+  pub slots-are : (c : Node) (os : List (Value c)) (i : ℕ) → AllStored all i (columns st c os) → (wordIn all i 0 ≡ length os) × (length os < 2 ^ 31)
   slots-are (branch f b cs) os i s = let n = branch-slots b os .0 in (ap (λ c. c .slots) (s .0 .is) ∙ n, omega (arith, n, s .0 .few))
   slots-are (leaf f k) os i s = let n = leaf-slots (meaning st k .layout) (textWidth k) os .0 in (ap (λ c. c .slots) (s .0 .is) ∙ n, omega (arith, n, s .0 .few))
 
@@ -181,8 +181,8 @@ pub record Back {A : Type 0} (g : ℕ → A) (r : ℕ → Got A) (es : List A) :
 -- a batch's bytes, from the place `base` of a page on, and cells that answer from them
 module _ (st : Setup) (well : WellFormed (st .root)) (page : List ℕ) (base : ℕ) (all : List ℕ) (holds : part page base (length all) ≡ all) (short : length all < 2 ^ 31)
     (ask : ℕ → ℕ → Got Cell)
-    (asks : (n k : ℕ) → n < length (nodes (st .root)) → k < recordIn all n 0 → ask n k ≡ got (cellIn st base all n (getD (nodes (st .root)) n (st .root)) k)) where
-  asked : (c : Node) (i : ℕ) (more : List Node) → Stands (st .root) c i more → (k : ℕ) → k < recordIn all i 0 → ask (fieldOf c .number) k ≡ got (cellIn st base all i c k)
+    (asks : (n k : ℕ) → n < length (nodes (st .root)) → k < wordIn all n 0 → ask n k ≡ got (cellIn st base all n (getD (nodes (st .root)) n (st .root)) k)) where
+  asked : (c : Node) (i : ℕ) (more : List Node) → Stands (st .root) c i more → (k : ℕ) → k < wordIn all i 0 → ask (fieldOf c .number) k ≡ got (cellIn st base all i c k)
   asked c i more s k h = ap (λ n. ask n k) (s .number) ∙ asks i k (s .inside) h ∙ ap (λ c. got (cellIn st base all i c k)) (s .found)
 
   mutual
@@ -211,16 +211,16 @@ module _ (st : Setup) (well : WellFormed (st .root)) (page : List ℕ) (base : �
         let layout = meaning st l .layout in
         let w = textWidth l in
         let col = leafColumn layout w os in
-        let data′ : part all (recordIn all i 6) (recordIn all i 7) ≡ col .bytes = ap (λ c. c .bytes) (s .0 .is) in
+        let data′ : part all (wordIn all i 6) (wordIn all i 7) ≡ col .bytes = ap (λ c. c .bytes) (s .0 .is) in
         let small : length (col .bytes) < 2 ^ 31 =
-        omega (arith, ap length data′, length-take (recordIn all i 7) (drop (recordIn all i 6) all), length-drop (recordIn all i 6) all) in
-        let place = base + recordIn all i 6 in
+        omega (arith, ap length data′, length-take (wordIn all i 7) (drop (wordIn all i 6) all), length-drop (wordIn all i 6) all) in
+        let place = base + wordIn all i 6 in
         record {
           gives = λ k d h. ap (λ c. leafIn layout w c k) (ap (columnIn all) (c .number) ∙ s .0 .is) ∙ leaf-is os layout l z small k d h;
           reads = λ k d h.
               ap (λ m. then m (says page)) (asked (leaf f l) i more c k (rw (slots-are st all (leaf f l) os i s .0) h))
               ∙ ap (λ c. says page (cond (isValid c k) (leafCell layout w place c k) (cellOf 0 0 0))) (s .0 .is)
-              ∙ says-leaf page place col (data-lies page all (col .bytes) base (recordIn all i 6) (recordIn all i 7) holds data′) layout w k (leaf-in os layout l z small k h)
+              ∙ says-leaf page place col (data-lies page all (col .bytes) base (wordIn all i 6) (wordIn all i 7) holds data′) layout w k (leaf-in os layout l z small k h)
               ∙ ap got (leaf-is os layout l z small k d h);
         }
 

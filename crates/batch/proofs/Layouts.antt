@@ -21,7 +21,7 @@ use Rattle.leaf.specs.declared.layout.Layout.{Layout}
 use Rattle.leaf.specs.declared.layout.Layout.the-variants.{None, Bit, Text, Eight}
 use Rattle.batch.specs.Values.{Setup, Value, Item, meaning, taken}
 use Rattle.batch.specs.Format.{isValid, width, offset, Spare, textWidth, Marked, Cuts, Views, BranchLaid, LeafLaid, Laid, LaidIn}
-use Rattle.batch.specs.Batch.{nulls, sizes, column, branchColumn, leafColumn, hidden, hiddenItem, columns, columnsIn, recordIn, columnIn}
+use Rattle.batch.specs.Batch.{nulls, sizes, column, branchColumn, leafColumn, hidden, hiddenItem, columns, columnsIn, wordIn, columnIn}
 use Rattle.batch.proofs.Records.{AllStored, stored-append}
 use Rattle.batch.proofs.Sized.{Present, Fits, Counted, Sized, SizedItem, hidden-sized-item}
 use Rattle.batch.proofs.Columns.{length-columns}
@@ -162,7 +162,7 @@ module _ (st : Setup) (well : WellFormed (st .root)) (all : List ℕ) (short : l
         let c = stands (st .root) well (leaf f k) i more e in
         let col = leafColumn (meaning st k .layout) (textWidth k) os in
         let small : length (col .bytes) < 2 ^ 31 =
-        omega (arith, ap (λ c. length (c .bytes)) (s .0 .is), length-take (recordIn all i 7) (drop (recordIn all i 6) all), length-drop (recordIn all i 6) all) in
+        omega (arith, ap (λ c. length (c .bytes)) (s .0 .is), length-take (wordIn all i 7) (drop (wordIn all i 6) all), length-drop (wordIn all i 6) all) in
         subst (LeafLaid (meaning st k .layout) (textWidth k)) (sym (ap (columnIn all) (c .number) ∙ s .0 .is)) (leaf-laid os (meaning st k .layout) k z small)
 
     laid-in : (cs : Fields) (i : ℕ) (more : List Node) → drop i (nodes (st .root)) ≡ nodesIn cs ++ more → (is : List (Item cs)) → All (SizedItem st cs) is → AllStored all i (columnsIn st cs is)
@@ -173,7 +173,7 @@ module _ (st : Setup) (well : WellFormed (st .root)) (all : List ℕ) (short : l
         let ys = map (λ i. i .1) is in
         let parts = stored-append all (columns st c xs) (columnsIn st cs ys) i s in
         let at = stands-in (st .root) c cs i more e in (
-          ap (λ n. recordIn all n 0) (number-of c i (nodesIn cs ++ more) (at .0)) ∙ slots-are st all c xs i (parts .0) .0 ∙ length-map is (λ i. i .0) ∙ l,
+          ap (λ n. wordIn all n 0) (number-of c i (nodesIn cs ++ more) (at .0)) ∙ slots-are st all c xs i (parts .0) .0 ∙ length-map is (λ i. i .0) ∙ l,
           laid c i (nodesIn cs ++ more) (at .0) xs (all-map (Sized st c) (λ i. i .0) is (all-weaker (SizedItem st (c ⊕ cs)) (λ i. Sized st c (i .0)) (λ i h. h .0) is z)) (parts .0),
           laid-in cs (i + length (nodes c)) more (at .1) ys (all-map (SizedItem st cs) (λ i. i .1) is (all-weaker (SizedItem st (c ⊕ cs)) (λ i. SizedItem st cs (i .1)) (λ i h. h .1) is z))
               (subst (λ m. AllStored all (i + m) (columnsIn st cs ys)) (length-columns st c xs) (parts .1)) n (length-map is (λ i. i .1) ∙ l),

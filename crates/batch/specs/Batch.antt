@@ -6,13 +6,15 @@ use mathlib.Core.Option.{Option, none, some}
 use Prim.Native.Nat.{ℕ, _+_, _*_}
 use lib.Dec.{eqb}
 use lib.ListN.{length, getD, replicate}
-use Rattle.bytes.specs.Numbers.{le, number, padded, pad, packed, numbers}
+use Rattle.bytes.specs.Numbers.{le, leAt, padded, pad, packed, numbers}
 use Rattle.bytes.specs.Lists.{part, joined, running, starts, isSome, orElse}
 use Rattle.schema.specs.Tree.{Node, Fields, Branch, branch, leaf, struct, list, fixed, _⊕_}
 use Rattle.tape.specs.View.{Elem}
 use Rattle.leaf.specs.Meaning.{shown}
 use Rattle.leaf.specs.declared.layout.Layout.{Layout}
 use Rattle.leaf.specs.declared.layout.Layout.the-variants.{None, Bit, Text, Eight}
+use Rattle.batch.specs.declared.record.Buffer.{Buffer}
+use Rattle.batch.specs.declared.record.NodeRecord.{NodeRecord}
 use Rattle.batch.specs.Format.{Column, width, textWidth}
 use Rattle.batch.specs.Values.{Setup, Value, Item, meaning, taken}
 
@@ -94,27 +96,49 @@ buffers (c ∷ cs) = pad (c .validity) ++ (pad (c .offsets) ++ (pad (c .bytes) +
 abbrev pub batch : List Column → List ℕ
 batch cs = records (32 * length cs) cs ++ buffers cs
 
--- the numbers of a node's record: slots, nulls, then place and length of validity, offsets and data
-abbrev pub recordIn : (bytes : List ℕ) (node k : ℕ) → ℕ
-recordIn bytes n k = number (part bytes (32 * n + 4 * k) 4)
+-- the eight numbers of a node's record, by their places; past the end of the bytes there are zeros
+abbrev pub wordIn : (bytes : List ℕ) (node k : ℕ) → ℕ
+wordIn bytes n k = leAt 4 bytes (32 * n + 4 * k)
 
-abbrev pub bufferIn : (bytes : List ℕ) (node k : ℕ) → List ℕ
-bufferIn bytes n k = part bytes (recordIn bytes n k) (recordIn bytes n (k + 1))
+-- and by their names
+abbrev pub recordIn : (bytes : List ℕ) (node : ℕ) → NodeRecord
+recordIn bytes n =
+    let word = wordIn bytes n in
+    record {
+      slots = word 0;
+      nulls = word 1;
+      validity = record { place = word 2; size = word 3 };
+      offsets = record { place = word 4; size = word 5 };
+      values = record { place = word 6; size = word 7 };
+    }
+
+-- the bytes of a buffer of a batch
+abbrev pub bufferIn : (bytes : List ℕ) → Buffer → List ℕ
+bufferIn bytes b = part bytes (b .place) (b .size)
 
 -- the column of a node, read from a batch
 abbrev pub columnIn : (bytes : List ℕ) (node : ℕ) → Column
 columnIn bytes n =
-    record { slots = recordIn bytes n 0; nulls = recordIn bytes n 1; validity = bufferIn bytes n 2; offsets = bufferIn bytes n 4; bytes = bufferIn bytes n 6 }
+    let own = recordIn bytes n in
+    record {
+      slots = own .slots;
+      nulls = own .nulls;
+      validity = bufferIn bytes (own .validity);
+      offsets = bufferIn bytes (own .offsets);
+      bytes = bufferIn bytes (own .values);
+    }
 
 -- the bytes that a node's buffers take, by its record
 abbrev pub tookIn : (bytes : List ℕ) (node : ℕ) → ℕ
-tookIn bytes n = padded (recordIn bytes n 3) + padded (recordIn bytes n 5) + padded (recordIn bytes n 7)
+tookIn bytes n =
+    let own = recordIn bytes n in
+    padded (own .validity .size) + padded (own .offsets .size) + padded (own .values .size)
 
 -- ours: a node's buffers lie end to end from `top` on, and an empty one has place 0
 abbrev pub lyingAt : (top size : ℕ) → ℕ
 lyingAt top size = cond (eqb size 0) 0 top
 
-pub record InOrder (bytes : List ℕ) (n top : ℕ) : Type 0 where
-  pub validity : recordIn bytes n 2 ≡ lyingAt top (recordIn bytes n 3)
-  pub offsets : recordIn bytes n 4 ≡ lyingAt (top + padded (recordIn bytes n 3)) (recordIn bytes n 5)
-  pub values : recordIn bytes n 6 ≡ lyingAt (top + padded (recordIn bytes n 3) + padded (recordIn bytes n 5)) (recordIn bytes n 7)
+pub record InOrder (own : NodeRecord) (top : ℕ) : Type 0 where
+  pub validity : own .validity .place ≡ lyingAt top (own .validity .size)
+  pub offsets : own .offsets .place ≡ lyingAt (top + padded (own .validity .size)) (own .offsets .size)
+  pub values : own .values .place ≡ lyingAt (top + padded (own .validity .size) + padded (own .offsets .size)) (own .values .size)

@@ -47,7 +47,7 @@ leafCell Eight w place c slot = lying (place + 8 * slot) 8
 abbrev pub cellIn : Setup → (base : ℕ) (bytes : List ℕ) (node : ℕ) → Node → ℕ → Cell
 cellIn st base bytes n (branch f b cs) slot = cond (isValid (columnIn bytes n) slot) (branchCell b (columnIn bytes n) slot) (cellOf 0 0 0)
 cellIn st base bytes n (leaf f k) slot =
-    cond (isValid (columnIn bytes n) slot) (leafCell (meaning st k .layout) (textWidth k) (base + recordIn bytes n 6) (columnIn bytes n) slot) (cellOf 0 0 0)
+    cond (isValid (columnIn bytes n) slot) (leafCell (meaning st k .layout) (textWidth k) (base + recordIn bytes n .values .place) (columnIn bytes n) slot) (cellOf 0 0 0)
 
 -- a row from the cells of a batch, and from the bytes of the page that they point to
 module _ (ask : (node slot : ℕ) → Got Cell) (page : List ℕ) where

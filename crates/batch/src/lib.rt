@@ -1,1 +1,2 @@
 // A batch: columns of row values as bytes.
+pub mod record;

@@ -10,7 +10,7 @@ use Rattle.bytes.specs.Lists.{part, joined}
 use Rattle.bytes.specs.Numbers.{number}
 use Rattle.bytes.proofs.Pieces.{joined-append, cut-out, part-in}
 use Rattle.batch.specs.Values.{Setup, Value}
-use Rattle.batch.specs.Batch.{recordIn}
+use Rattle.batch.specs.Batch.{wordIn}
 use Rattle.laws.specs.Shelf.{Held, bytesOf, used, page}
 
 module _ (st : Setup) where
@@ -48,7 +48,7 @@ module _ (st : Setup) where
 
     -- a number of a record, where it stands on the page
     pub record-where : (n k : ℕ) → 32 * n + 4 * k + 4 ≤ length (bytesOf st (rowsIn held i))
-        → recordIn (bytesOf st (rowsIn held i)) n k ≡ number (part (page st held) (start held i + (32 * n + 4 * k)) 4)
+        → wordIn (bytesOf st (rowsIn held i)) n k ≡ number (part (page st held) (start held i + (32 * n + 4 * k)) 4)
     record-where n k l =
         ap number (sym (part-in (page st held) (bytesOf st (rowsIn held i)) (start held i) (length (bytesOf st (rowsIn held i))) (32 * n + 4 * k) 4 lies l))
 

@@ -20,7 +20,7 @@ use Rattle.tape.specs.View.{TapeView, isPosition}
 use Rattle.batch.specs.Values.{NullFirst, Setup, Value, fits}
 use Rattle.slip.specs.Slips.{Got, refuse, got, slip, then, notThere}
 use Rattle.batch.specs.Format.{Column, valueIn, Laid, Filled, Placed}
-use Rattle.batch.specs.Batch.{columns, sizeOf, recordIn, columnIn, tookIn, InOrder}
+use Rattle.batch.specs.Batch.{columns, sizeOf, wordIn, recordIn, columnIn, tookIn, InOrder}
 use Rattle.laws.specs.Shelf.{Held, badPosition, walk, bytesOf, used, page, shelve, rowsOf}
 use Rattle.batch.specs.Cells
 use Rattle.batch.specs.Cells.{cellIn, read}
@@ -125,7 +125,7 @@ module _ (st : Setup) where
     pub stored : (rows : List (Value (st .root))) → Kept rows → AllStored (bytesOf st rows) 0 (columns st (st .root) rows)
     stored rows k = all-stored (columns st (st .root) rows) (omega (arith, k .within)) (k .few)
 
-    pub count-is : (rows : List (Value (st .root))) → Kept rows → recordIn (bytesOf st rows) 0 0 ≡ length rows
+    pub count-is : (rows : List (Value (st .root))) → Kept rows → wordIn (bytesOf st rows) 0 0 ≡ length rows
     count-is rows k = slots-are st (bytesOf st rows) (st .root) rows 0 (stored rows k) .0
 
     pub at-root : drop 0 (nodes (st .root)) ≡ nodes (st .root) ++ []
@@ -133,7 +133,7 @@ module _ (st : Setup) where
 
     -- rows by the meaning of the buffers, and through any cells that answer from them
     both : (rows : List (Value (st .root))) → Kept rows → (bytes : List ℕ) (base : ℕ) → part bytes base (length (bytesOf st rows)) ≡ bytesOf st rows → (ask : ℕ → ℕ → Got Cells.Cell)
-        → ((n k : ℕ) → n < length (nodes (st .root)) → k < recordIn (bytesOf st rows) n 0
+        → ((n k : ℕ) → n < length (nodes (st .root)) → k < wordIn (bytesOf st rows) n 0
         → ask n k ≡ got (cellIn st base (bytesOf st rows) n (getD (nodes (st .root)) n (st .root)) k))
         → Back (valueIn st (columnIn (bytesOf st rows)) (st .root)) (read ask bytes (st .root)) rows
     both rows k bytes base lie ask asks =
@@ -141,7 +141,7 @@ module _ (st : Setup) where
 
     -- rows from a batch's bytes alone
     abbrev rowsFrom : List ℕ → List (Value (st .root))
-    rowsFrom bytes = map (valueIn st (columnIn bytes) (st .root)) (between 0 (recordIn bytes 0 0))
+    rowsFrom bytes = map (valueIn st (columnIn bytes) (st .root)) (between 0 (wordIn bytes 0 0))
 
     pub rows-from : (rows : List (Value (st .root))) → Kept rows → rowsFrom (bytesOf st rows) ≡ rows
     rows-from rows k =
@@ -153,7 +153,7 @@ module _ (st : Setup) where
 
     -- how far a batch goes, by its records on the page
     module _ (bytes : List ℕ) (base : ℕ) (rows : List (Value (st .root))) (k : Kept rows) (lie : part bytes base (length (bytesOf st rows)) ≡ bytesOf st rows) where
-      same-record : (n j : ℕ) → n < length (nodes (st .root)) → j < 8 → recordIn (drop base bytes) n j ≡ recordIn (bytesOf st rows) n j
+      same-record : (n j : ℕ) → n < length (nodes (st .root)) → j < 8 → wordIn (drop base bytes) n j ≡ wordIn (bytesOf st rows) n j
       same-record n j h l =
           ap (λ xs. number (take 4 xs)) (drop-drop (32 * n + 4 * j) base bytes)
           ∙ ap number (part-in bytes (bytesOf st rows) base (length (bytesOf st rows)) (32 * n + 4 * j) 4 lie
@@ -182,7 +182,7 @@ module _ (st : Setup) where
           omega (arith, took, length-batch cols, many)
 
     pub ordered-is : (rows : List (Value (st .root))) → Kept rows → (n : ℕ) → n < length (nodes (st .root))
-        → InOrder (bytesOf st rows) n (32 * length (nodes (st .root)) + sum (map (tookIn (bytesOf st rows)) (between 0 n)))
+        → InOrder (recordIn (bytesOf st rows) n) (32 * length (nodes (st .root)) + sum (map (tookIn (bytesOf st rows)) (between 0 n)))
     ordered-is rows k n h =
         let cols = columns st (st .root) rows in
         let many : length cols ≡ length (nodes (st .root)) = length-columns st (st .root) rows in
@@ -209,7 +209,7 @@ module _ (st : Setup) where
         where
           made : ℕ → List ℕ → Bool → Got Cells.Cell
           made base bytes b =
-              cond (b && (ltb n (length (nodes (st .root))) && ltb slot (recordIn bytes n 0))) (got (cellIn st base bytes n (getD (nodes (st .root)) n (st .root)) slot)) (refuse notThere)
+              cond (b && (ltb n (length (nodes (st .root))) && ltb slot (wordIn bytes n 0))) (got (cellIn st base bytes n (getD (nodes (st .root)) n (st .root)) slot)) (refuse notThere)
 
           go : (b : Bool) → ltb i (length held) ≡ b
               → made (start st held i) (bytesOf st (rowsIn st held i)) b ≡ made (startOn st (page st held) i) (batchOn st (page st held) i) b
@@ -222,15 +222,15 @@ module _ (st : Setup) where
           let mine = rowsIn st held i in
           let bytes = bytesOf st mine in
           both mine (kept-at i h) (page st held) (start st held i) (lies st held i h) (λ n slot. cellFrom (answer st held (Cell i n slot)))
-          (λ n k l m. rw (lt-ltb i (length held) h, lt-ltb n (length (nodes (st .root))) l, lt-ltb k (recordIn bytes n 0) m)) .reads k d l
+          (λ n k l m. rw (lt-ltb i (length held) h, lt-ltb n (length (nodes (st .root))) l, lt-ltb k (wordIn bytes n 0) m)) .reads k d l
 
       pub end-is : (i k : ℕ) → i < length held → length (rowsIn st held i) ≤ k → answer st held (Cell i 0 k) ≡ refuse notThere
       end-is i k h l =
           let mine = rowsIn st held i in
           let bytes = bytesOf st mine in
           ap (λ m. then m (λ c. got (Reply.cell c)))
-          (cond-false (ltb i (length held) && (ltb 0 (length (nodes (st .root))) && ltb k (recordIn bytes 0 0))) _ _
-          (and-right (ltb i (length held)) _ (and-right (ltb 0 (length (nodes (st .root)))) _ (le-ltb k (recordIn bytes 0 0) (omega (arith, count-is mine (kept-at i h)))))))
+          (cond-false (ltb i (length held) && (ltb 0 (length (nodes (st .root))) && ltb k (wordIn bytes 0 0))) _ _
+          (and-right (ltb i (length held)) _ (and-right (ltb 0 (length (nodes (st .root)))) _ (le-ltb k (wordIn bytes 0 0) (omega (arith, count-is mine (kept-at i h)))))))
 
       pub same-is : (i j : ℕ) → i < length held → j < length held → batchOn st (page st held) i ≡ batchOn st (page st held) j → rowsIn st held i ≡ rowsIn st held j
       same-is i j h g e =
@@ -263,7 +263,7 @@ module _ (st : Setup) where
 
       pub placed-is : (i : ℕ) → i < length held → (n : ℕ) → n < length (nodes (st .root)) →
           let b = bytesOf st (rowsIn st held i) in
-          let r = recordIn b n in Placed b (r 2) (r 3) × Placed b (r 4) (r 5) × Placed b (r 6) (r 7)
+          let r = wordIn b n in Placed b (r 2) (r 3) × Placed b (r 4) (r 5) × Placed b (r 6) (r 7)
       placed-is i h n l =
           let mine = rowsIn st held i in
           let cols = columns st (st .root) mine in

@@ -16,7 +16,7 @@ use Rattle.batch.specs.Cells
 abbrev pub cellAt : (st : Setup) → Held st → (batch node slot : ℕ) → Got Cells.Cell
 cellAt st held i n slot =
     let bytes = bytesOf st (getD held i []) in
-    cond (ltb i (length held) && (ltb n (length (nodes (st .root))) && ltb slot (recordIn bytes n 0)))
+    cond (ltb i (length held) && (ltb n (length (nodes (st .root))) && ltb slot (recordIn bytes n .slots)))
     (got (Cells.cellIn st (used st (take i held)) bytes n (getD (nodes (st .root)) n (st .root)) slot))
     (refuse notThere)
 

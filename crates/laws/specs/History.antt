@@ -100,7 +100,7 @@ module _ (st : Setup) where
     -- the cell of a node's slot, where there are so many batches
     abbrev pub cellOn : (count batch node slot : ℕ) → Got Cells.Cell
     cellOn count i n slot =
-        cond (ltb i count && (ltb n (length (nodes (st .root))) && ltb slot (recordIn (batchOn i) n 0)))
+        cond (ltb i count && (ltb n (length (nodes (st .root))) && ltb slot (recordIn (batchOn i) n .slots)))
         (got (cellIn st (startOn i) (batchOn i) n (getD (nodes (st .root)) n (st .root)) slot))
         (refuse notThere)
 
@@ -143,16 +143,17 @@ module _ (st : Setup) where
 
     -- the buffers of a batch mean its rows, and they are laid out as the Format says
     pub record InFormat (i : ℕ) : Type 0 where
-      pub many : recordIn (batchOn (now .page) i) 0 0 ≡ rows past i
+      pub many : recordIn (batchOn (now .page) i) 0 .slots ≡ rows past i
       pub means : (k : ℕ) → k < rows past i → row past i k ≡ got (valueIn st (columnIn (batchOn (now .page) i)) (st .root) k)
       pub laid : Laid st (columnIn (batchOn (now .page) i)) (st .root)
       pub filled : Filled st (columnIn (batchOn (now .page) i)) (st .root)
       pub placed : (n : ℕ) → n < length (nodes (st .root)) →
           let b = batchOn (now .page) i in
-          let r = recordIn b n in Placed b (r 2) (r 3) × Placed b (r 4) (r 5) × Placed b (r 6) (r 7)
+          let own = recordIn b n in
+          Placed b (own .validity .place) (own .validity .size) × Placed b (own .offsets .place) (own .offsets .size) × Placed b (own .values .place) (own .values .size)
       -- ours: records and buffers follow one another, and nothing else is there; a batch begins at a multiple of 8
       pub ordered : (n : ℕ) → n < length (nodes (st .root)) →
-          let b = batchOn (now .page) i in InOrder b n (32 * length (nodes (st .root)) + sum (map (tookIn b) (between 0 n)))
+          let b = batchOn (now .page) i in InOrder (recordIn b n) (32 * length (nodes (st .root)) + sum (map (tookIn b) (between 0 n)))
       pub whole : let b = batchOn (now .page) i in length b ≡ 32 * length (nodes (st .root)) + sum (map (tookIn b) (between 0 (length (nodes (st .root)))))
       pub aligned : startOn (now .page) i % 8 ≡ 0
 

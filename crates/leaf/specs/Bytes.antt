@@ -20,13 +20,13 @@ HoldsBytes (i32 z) = Unit {0}
 HoldsBytes (bool b) = Unit {0}
 HoldsBytes null = Unit {0}
 
--- the value of an answer, if it has one, is bytes
-abbrev pub SaysBytes : Answer → Type 0
-SaysBytes nothing = Unit {0}
-SaysBytes conflict = Unit {0}
-SaysBytes misfit = Unit {0}
-SaysBytes (value bs) = AreBytes bs
+-- what holds of the value of an answer, if it has one
+abbrev pub Valued : (List ℕ → Type 0) → Answer → Type 0
+Valued P nothing = Unit {0}
+Valued P conflict = Unit {0}
+Valued P misfit = Unit {0}
+Valued P (value bs) = P bs
 
--- what every leaf owes: bytes are answered by bytes
+-- a leaf whose values are bytes wherever the texts of elements are
 abbrev pub GivesBytes : Meaning → Type 0
-GivesBytes m = (e : Elem) → HoldsBytes e → SaysBytes (m .answer e)
+GivesBytes m = (e : Elem) → HoldsBytes e → Valued AreBytes (m .answer e)

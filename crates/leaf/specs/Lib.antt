@@ -1,3 +1,4 @@
 pub mod Meaning
 pub mod Replies
 pub mod Bytes
+pub mod Laws

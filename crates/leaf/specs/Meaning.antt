@@ -62,6 +62,15 @@ ofNull (i32 z) = conflict
 ofNull (bool b) = conflict
 ofNull null = nothing
 
+abbrev pub textLeaf : Meaning
+textLeaf = record { layout = Text; answer = ofText }
+
+abbrev pub booleanLeaf : Meaning
+booleanLeaf = record { layout = Bit; answer = ofBoolean }
+
+abbrev pub nullLeaf : Meaning
+nullLeaf = record { layout = None; answer = ofNull }
+
 -- Lenient turns a conflict to null
 abbrev pub forgiven : Answer → Answer
 forgiven nothing = nothing
@@ -122,7 +131,7 @@ when on layer m = cond on (layer m) m
 
 -- Text has Lenient over Coerce, Boolean and Null have Lenient, and a custom leaf has Lenient over Checked
 abbrev pub pile : Settings → Meaning → LeafKind → Meaning
-pile s own (LeafKind.text wide) = when (s .lenient) lenient (when (s .coerce) coerce (record { layout = Text; answer = ofText }))
-pile s own LeafKind.boolean = when (s .lenient) lenient (record { layout = Bit; answer = ofBoolean })
-pile s own LeafKind.null = when (s .lenient) lenient (record { layout = None; answer = ofNull })
+pile s own (LeafKind.text wide) = when (s .lenient) lenient (when (s .coerce) coerce textLeaf)
+pile s own LeafKind.boolean = when (s .lenient) lenient booleanLeaf
+pile s own LeafKind.null = when (s .lenient) lenient nullLeaf
 pile s own LeafKind.custom = when (s .lenient) lenient (checked own)

@@ -15,7 +15,7 @@ use crate::layout::Reply;
 use tape::element::Element;
 
 // Where it is on, turns a conflict into null.
-#[derive(Clone, Copy, PartialEq, Eq, Debug)]
+#[derive(Clone, Copy)]
 pub struct Lenient<L> {
     pub below: L,
     pub on: bool,
@@ -47,7 +47,7 @@ pub impl<L: Leaf> Leaf for Lenient<L> as LenientLeaf {
 }
 
 // Turns a value that does not fit the layout below into a misfit.
-#[derive(Clone, Copy, PartialEq, Eq, Debug)]
+#[derive(Clone, Copy)]
 pub struct Checked<L> {
     pub below: L,
 }
@@ -100,7 +100,7 @@ pub impl<L: Leaf> Leaf for Checked<L> as CheckedLeaf {
 }
 
 // Where it is on, gives numbers and truth values as text if the layout below is text.
-#[derive(Clone, Copy, PartialEq, Eq, Debug)]
+#[derive(Clone, Copy)]
 pub struct Coerce<L> {
     pub below: L,
     pub on: bool,

@@ -3,7 +3,7 @@ ghost use mathlib.Core.Path.{_≡_};
 ghost use lib.Chars.{codes};
 ghost use lib.ListN.{length};
 ghost use Rattle.tape.specs.Values.{elemOf};
-ghost use Rattle.leaf.specs.Meaning.{Meaning, value, ofText, ofBoolean, ofNull};
+ghost use Rattle.leaf.specs.Meaning.{Meaning, value, textLeaf, booleanLeaf, nullLeaf};
 ghost use Rattle.leaf.specs.Replies.{replyOf};
 ghost use Rattle.leaf.specs.declared.layout.Layout.{Layout};
 ghost use Rattle.leaf.specs.declared.layout.Reply.{Reply};
@@ -13,11 +13,11 @@ use crate::layout::Reply;
 use tape::element::Element;
 
 // Takes strings, and keeps their bytes.
-#[derive(Clone, Copy, PartialEq, Eq, Debug)]
+#[derive(Clone, Copy)]
 pub struct Text {}
 
 pub impl Leaf for Text as TextLeaf {
-    ghost meaning = { λ _. record { layout = Layout.Text; answer = ofText } };
+    ghost meaning = { λ _. textLeaf };
 
     ghost called = { λ _. codes "string" };
 
@@ -45,11 +45,11 @@ pub impl Leaf for Text as TextLeaf {
 }
 
 // Takes true and false, and keeps a byte of 1 or 0.
-#[derive(Clone, Copy, PartialEq, Eq, Debug)]
+#[derive(Clone, Copy)]
 pub struct Boolean {}
 
 pub impl Leaf for Boolean as BooleanLeaf {
-    ghost meaning = { λ _. record { layout = Layout.Bit; answer = ofBoolean } };
+    ghost meaning = { λ _. booleanLeaf };
 
     ghost called = { λ _. codes "boolean" };
 
@@ -79,11 +79,11 @@ pub impl Leaf for Boolean as BooleanLeaf {
 }
 
 // Takes nulls, and keeps no value.
-#[derive(Clone, Copy, PartialEq, Eq, Debug)]
+#[derive(Clone, Copy)]
 pub struct Null {}
 
 pub impl Leaf for Null as NullLeaf {
-    ghost meaning = { λ _. record { layout = Layout.None; answer = ofNull } };
+    ghost meaning = { λ _. nullLeaf };
 
     ghost called = { λ _. codes "null" };
 

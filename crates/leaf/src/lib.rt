@@ -10,9 +10,11 @@ ghost use Rattle.leaf.specs.declared.layout.Layout.{Layout};
 ghost use Rattle.leaf.specs.declared.layout.Reply.{Reply};
 
 pub mod decimal;
+pub mod laws;
 pub mod layers;
 pub mod layout;
 pub mod leaves;
+pub mod piles;
 
 use layout::Layout;
 use layout::Reply;

@@ -13,6 +13,10 @@ pub record TapeView : Type 0 where
   pub texts : List ℕ
   pub offsets : List ℕ
 
+-- the view of these bytes
+abbrev pub view : (elements texts offsets : List ℕ) → TapeView
+view es ts os = record { elements = es; texts = ts; offsets = os }
+
 -- an element's value; what a list or an object holds does not count
 pub data Elem : Type 0 where
   object : Elem

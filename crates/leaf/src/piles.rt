@@ -1,0 +1,57 @@
+// The leaf that a shelf uses for a node of each kind: the layers that its settings put on.
+ghost use denote.Ref.{now as at-now};
+ghost use mathlib.Core.Path.{_≡_};
+ghost use mathlib.Core.Bool.{Bool};
+ghost use Rattle.schema.specs.Tree.{LeafKind};
+ghost use Rattle.leaf.specs.Meaning.{Meaning, lenient, coerce, checked, when, pile, textLeaf, booleanLeaf, nullLeaf};
+use crate::Leaf;
+use crate::layers::Checked;
+use crate::layers::Coerce;
+use crate::layers::Lenient;
+use crate::leaves::Boolean;
+use crate::leaves::Null;
+use crate::leaves::Text;
+use schema::settings::Settings;
+
+// The pile of a text node, narrow or wide.
+pub fn text_pile(settings: Settings) -> Lenient<Coerce<Text>>
+    ensures { λ r. ⌜ ((own : Meaning) (wide : Bool) → when (r .on) lenient (when (r .below .on) coerce textLeaf) ≡ pile settings own (LeafKind.text wide)) ⌝ }
+{
+    Lenient {
+        below: Coerce {
+            below: Text {},
+            on: settings.coerce,
+        },
+        on: settings.lenient,
+    }
+}
+
+// The pile of a boolean node.
+pub fn boolean_pile(settings: Settings) -> Lenient<Boolean>
+    ensures { λ r. ⌜ ((own : Meaning) → when (r .on) lenient booleanLeaf ≡ pile settings own LeafKind.boolean) ⌝ }
+{
+    Lenient {
+        below: Boolean {},
+        on: settings.lenient,
+    }
+}
+
+// The pile of a null node.
+pub fn null_pile(settings: Settings) -> Lenient<Null>
+    ensures { λ r. ⌜ ((own : Meaning) → when (r .on) lenient nullLeaf ≡ pile settings own LeafKind.null) ⌝ }
+{
+    Lenient {
+        below: Null {},
+        on: settings.lenient,
+    }
+}
+
+// The pile of a custom node.
+pub fn custom_pile<X: Leaf>(settings: Settings, custom: &X) -> Lenient<Checked<&X>>
+    ensures { λ r. ⌜ when (r .on) lenient (checked (X·Leaf .meaning (at-now (r .below .below)))) ≡ pile settings (X·Leaf .meaning (now (custom .entry))) LeafKind.custom ⌝ }
+{
+    Lenient {
+        below: Checked { below: custom },
+        on: settings.lenient,
+    }
+}
