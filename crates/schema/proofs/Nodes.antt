@@ -85,7 +85,7 @@ pub all-held : (rs ns : List ℕ) → AllHeld rs ns
 all-held rs ns root o i h = held-at o i h
 
 -- the numbers of the nodes
-between-more : (i n k : ℕ) → between i (n + k) ≡ between i n ++ between (i + n) k
+pub between-more : (i n k : ℕ) → between i (n + k) ≡ between i n ++ between (i + n) k
 between-more i zero k = let e : 0 + k ≡ k = omega arith in let e′ : i + 0 ≡ i = omega arith in rw (e, e′) refl
 between-more i (suc n) k =
     let e : suc n + k ≡ suc (n + k) = omega arith in
