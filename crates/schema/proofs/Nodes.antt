@@ -56,6 +56,10 @@ mutual
 pub held-end : {rs ns : List ℕ} {i : ℕ} {t : Node} → Held rs ns i t → (i < endAt rs i) × (endAt rs i ≤ recordCount rs)
 held-end {t = t} h = (omega (arith, held-written h .end, ap length (nodes-is t)), omega (arith, held-written h .end, held-ends h))
 
+-- a node, and then all that stands below its children
+pub held-size : {rs ns : List ℕ} {i : ℕ} {t : Node} → Held rs ns i t → endAt rs i ≡ i + 1 + length (nodesIn (childrenOf t))
+held-size {t = t} h = omega (arith, held-written h .end, ap length (nodes-is t))
+
 -- the tree of each node below is held from its own number on
 mutual
   held-tree : {rs ns : List ℕ} {i : ℕ} {t : Node} → Held rs ns i t → (j : ℕ) (z : Node) → j < length (nodes t) → Held rs ns (i + j) (getD (nodes t) j z)
