@@ -8,3 +8,4 @@ pub mod Slots
 pub mod Back
 pub mod Layouts
 pub mod Filled
+pub mod Whole

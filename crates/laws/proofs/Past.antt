@@ -14,8 +14,8 @@ use Rattle.schema.specs.Tree.{fieldOf, nodes}
 use Rattle.tape.specs.View.{TapeView}
 use Rattle.slip.specs.Slips.{Got, refuse, got, then, notThere, slip}
 use Rattle.batch.specs.Values.{Setup, Value, value}
-use Rattle.batch.specs.Batch.{hidden}
-use Rattle.laws.specs.Shelf.{Held, badPosition, bytesOf, isFull, walk, used, page, shelve, rowsOf}
+use Rattle.batch.specs.Batch.{hidden, bytesOf}
+use Rattle.laws.specs.Shelf.{Held, badPosition, isFull, walk, used, page, shelve, rowsOf}
 use Rattle.laws.specs.Calls.{Call, Shelve, Cell, Release, Count, Reply, answer, after, run}
 use Rattle.laws.specs.Laws.{takes}
 use Rattle.laws.specs.History.{Past, later, Idle, FromOpened, history, batchOn, startOn, from, rows, row, SameRows, AlwaysKept, AlwaysInFormat}
@@ -24,7 +24,8 @@ use Rattle.laws.proofs.Told.{Told, told-got, told-as}
 use Rattle.laws.proofs.Walks.{Holds, stopped, holds, holds-skip}
 use Rattle.laws.proofs.Fits.{shelve-told, rows-are, refused-by-test, refused-alone}
 use Rattle.laws.proofs.Pages.{rowsIn}
-use Rattle.laws.proofs.Runs.{Sound, map-take, ordered-is, laid-is, filled-all, placed-is, means-is, whole-is, aligned-is, kept-at, count-is, sound-after, start-is, batch-is, cell-is, read-is, end-is, same-is, is-same, end-of-all, behind, page-long}
+use Rattle.batch.proofs.Whole.{map-take, means-at}
+use Rattle.laws.proofs.Runs.{Sound, held-at, format-is, filled-all, aligned-is, sound-after, start-is, batch-is, cell-is, read-is, end-is, same-is, is-same, end-of-all, behind, page-long}
 
 same-list : {A : Type 0} (d : A) (xs ys : List A) → length xs ≡ length ys → ((k : ℕ) → k < length xs → getD xs k d ≡ getD ys k d) → xs ≡ ys
 same-list d [] [] e h = refl
@@ -164,17 +165,14 @@ always-in-format st well small done left null i h =
     let sound = told .sound in
     let l : i < length held = rw (long st past held told) at h in
     let mine = rowsIn st held i in
-    let k = kept-at st well small held sound i l in
     let rows-are = rows-is st past held told i l in
     let is : batchOn st (page st held) i ≡ bytesOf st mine = batch-is st well small held sound i l in
+    let good = format-is st well small held sound i l in
     record {
-      many = rw is (count-is st well small mine k ∙ rows-are);
-      means = λ j g. rw is (row-is st past held told i j l g ∙ ap got (sym (means-is st well small held sound i j (hidden st (st .root)) l (omega (arith, rows-are)))));
-      laid = rw is (laid-is st well small held sound i l);
+      many = rw is (good .many ∙ rows-are);
+      means = λ j g. rw is (row-is st past held told i j l g ∙ ap got (sym (means-at st well mine (held-at st well small held sound i l) j (hidden st (st .root)) (omega (arith, rows-are)))));
+      lies = rw is (good .lies);
       filled = rw is (filled-all st well small held sound i l);
-      placed = rw is (placed-is st well small held sound i l);
-      ordered = rw is (ordered-is st well small mine k);
-      whole = rw is (whole-is st well small held sound i l);
       aligned = rw (start-is st well small held sound i (omega arith)) (aligned-is st well small held sound i (omega arith));
     }
 

@@ -1,3 +1,4 @@
 pub mod Reading
+pub mod Cover
 pub mod Walks
 pub mod Elements

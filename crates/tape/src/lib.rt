@@ -1,12 +1,15 @@
 // A tape: a JSON text flattened to elements, with its texts and where each begins.
+ghost use mathlib.Core.Bool.{true, _||_};
 ghost use mathlib.Core.Path.{_≡_};
 ghost use Prim.Native.Nat.{_+_, _*_, _^_, _<_};
+ghost use lib.ListN.{length};
 ghost use Rattle.tape.specs.Answer.{OpensTo};
 ghost use Rattle.tape.specs.Elements.{tapeElementAt};
-ghost use Rattle.tape.specs.Layout.{nextAt, numberAt, elementCount, offsetCount};
+ghost use Rattle.tape.specs.Layout.{the, nextAt, numberAt, elementCount, offsetCount};
 ghost use Rattle.tape.specs.Opens.{Opened, viewOf};
 ghost use Rattle.tape.specs.Values.{elemOf};
-ghost use Rattle.tape.specs.View.{view, twos, textAt, elementAt, isPosition};
+ghost use Rattle.tape.specs.View.{view, twos, isAt, textAt, elementAt, entries, isPosition};
+ghost use Rattle.tape.specs.Walk.{ListLaw, ObjectLaw, RowsLaw, NextLaw, FirstLaw, TextLaw};
 use check::is_tape;
 use check::letter;
 use check::number;
@@ -96,7 +99,24 @@ impl<'a> Tape<'a> {
         unsafe { std::str::from_utf8_unchecked(&self.texts[from..to]) }
     }
 
-    // What a leaf sees of the element at the position `p`.
+    // How many entries the list or the object at the position `p` has; an object's names count too.
+    pub fn entry_count(self, p: u32) -> usize
+        requires opened { ⌜ Opened self ⌝ }
+        requires position { ⌜ isPosition (viewOf self) p ≡ true ⌝ }
+        requires bracket { ⌜ (isAt (viewOf self) (the "{") p || isAt (viewOf self) (the "[") p) ≡ true ⌝ }
+        ensures { λ r. ⌜ r ≡ length (entries (viewOf (self .entry)) p) ⌝ }
+    {
+        let end = number(self.elements, p as usize);
+        let mut at = p + 1;
+        let mut n = 0;
+        while at < end {
+            n += 1;
+            at = self.next(at);
+        }
+        n
+    }
+
+    // What a leaf sees of the element at `p`.
     pub fn element(self, p: u32) -> Element<'a>
         requires opened { ⌜ Opened self ⌝ }
         requires within { ⌜ p < elementCount (viewOf self .elements) ⌝ }
@@ -138,4 +158,16 @@ impl<'a> Tape<'a> {
             _ => at == 0 || letter(self.elements, at - 1) != 'j',
         }
     }
+}
+
+// The laws that a walk of an opened tape rests on.
+pub fn walks_stand() -> u8
+    ensures list { λ _. ⌜ ListLaw ⌝ }
+    ensures object { λ _. ⌜ ObjectLaw ⌝ }
+    ensures rows { λ _. ⌜ RowsLaw ⌝ }
+    ensures next { λ _. ⌜ NextLaw ⌝ }
+    ensures first { λ _. ⌜ FirstLaw ⌝ }
+    ensures text { λ _. ⌜ TextLaw ⌝ }
+{
+    0
 }

@@ -3,7 +3,7 @@ use mathlib.Core.Logic.{inl, inr}
 use native.Mathlib.Omega.{arith}
 use Rattle.tape.specs.Layout.{letterAt, numberAt}
 use Rattle.tape.proofs.Elements.{string-says, number-says, i64-says}
-use Rattle.tape.proofs.Walks.{text-within, low-within}
+use Rattle.tape.proofs.Cover.{text-within, low-within}
 use Rattle.tape.proofs.Tape.element.Needs as need
 
 pub get-string-requires : need.get-string-requires

@@ -1,5 +1,5 @@
 use native.Mathlib.Omega.{arith}
-use Rattle.tape.proofs.Walks.{letters}
+use Rattle.tape.proofs.Cover.{letters}
 use Rattle.tape.proofs.Tape.get.Needs as need
 
 pub unreachable-requires : need.unreachable-requires

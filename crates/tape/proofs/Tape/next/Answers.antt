@@ -1,5 +1,5 @@
 use native.Mathlib.Omega.{arith}
-use Rattle.tape.proofs.Walks.{partner-within}
+use Rattle.tape.proofs.Cover.{partner-within}
 use Rattle.tape.proofs.Tape.next.Needs as need
 
 pub add-result : need.add-result
