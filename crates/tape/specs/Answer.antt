@@ -11,7 +11,7 @@ use Rattle.slip.specs.Slips.{Slip, slip, slipOf}
 use Rattle.tape.specs.declared.Tape.{Tape}
 use Rattle.tape.specs.Layout.{the, letterAt, numberAt, elementCount}
 use Rattle.tape.specs.Grammar.{Values, Pairs}
-use Rattle.tape.specs.Opens.{Untorn, viewOf}
+use Rattle.tape.specs.Opens.{Untorn, Opened, viewOf}
 use Rattle.tape.specs.View.{TapeView}
 
 -- the answer is the one index that P holds of, and none where P holds of none
@@ -43,5 +43,5 @@ torn = slip 1 0 0
 
 -- Opening answers the tape with exactly these bytes where they are a tape, and the torn-tape refusal where they are none.
 abbrev pub OpensTo : TapeView → Result Tape Fault → Type 0
-OpensTo v (Ok t) = Untorn v × (viewOf t ≡ v)
+OpensTo v (Ok t) = Opened t × (viewOf t ≡ v)
 OpensTo v (Err f) = (Untorn v → ⊥) × (slipOf f ≡ torn)
