@@ -56,7 +56,7 @@ module _ (st : Setup) where
       let long : length (bytesOf st (worths st t ps)) ≡ end =
       omega (arith, length-batch (columns st (st .root) (worths st t ps)), w .is, length-columns st (st .root) (worths st t ps)) in
       record {
-        sized = all-mapped st t (Sized st (st .root)) (worth st t (st .root) force) (sized-value st t (st .root) force) ps;
+        sized = all-mapped (Sized st (st .root)) (worth st t (st .root) force) (sized-value st t (st .root) force) ps;
         few = all-weaker (λ c. (c .nulls ≤ c .slots) × (c .slots < 2 ^ 31)) (λ c. c .slots < 2 ^ 31) (λ c h. h .1) (columns st (st .root) (worths st t ps)) (w .few small);
         fits = omega (arith, long, w .within);
       }
