@@ -1,7 +1,7 @@
 -- The laws of every run, by what was asked and answered, and by the bytes of the page.
 use mathlib.Core.Path.{_≡_}
 use mathlib.Core.Logic.{_↔_}
-use mathlib.Core.Bool.{false, cond}
+use mathlib.Core.Bool.{true, false, cond}
 use mathlib.Core.List.{List, [], _∷_, _++_, map}
 use Prim.Native.Nat.{ℕ, zero, suc, _+_, _-_, _*_, _%_, _^_, _<_, _≤_}
 use lib.Dec.{eqb, ltb}
@@ -14,8 +14,9 @@ use Rattle.batch.specs.Values.{NullFirst, Setup, Value, value}
 use Rattle.slip.specs.Slips.{Got, refuse, got, then, notThere, Refused, numberOf}
 use Rattle.batch.specs.Format.{valueIn, Filled}
 use Rattle.batch.specs.Laws.{LaidOut}
-use Rattle.batch.specs.Batch.{recordIn, columnIn, tookIn}
-use Rattle.laws.specs.Shelf.{Held, page}
+use Rattle.batch.specs.Batch.{bytesOf, recordIn, columnIn, tookIn}
+use Rattle.laws.specs.Shelf.{Held, page, rowsOf}
+use Rattle.laws.specs.Space.{peak}
 use Rattle.batch.specs.Cells
 use Rattle.batch.specs.Cells.{batchCell, read}
 use Rattle.laws.specs.Calls.{Call, Shelve, Cell, Release, Count, Reply, batch, cell, counts, answer, after, run}
@@ -117,6 +118,17 @@ module _ (st : Setup) where
   readBack now i k = read (λ n slot. cellFrom (now .reply (Cell i n slot))) (now .page) (st .root) k
 
   module _ (now : Seen) (past : Past) where
+    -- space for the rows of some positions, all of which the rules take: within the limits, for the batch's bytes on the page, and for
+    -- the child positions in the work list
+    pub record Roomy (t : TapeView) (ps : List ℕ) (lent : ℕ) (own : List (Value (st .root))) : Type 0 where
+      pub taken : (i : ℕ) → i < length ps → takes st t (getD ps i 0) ≡ true
+      pub are : rowsOf st t ps ≡ got own
+      pub few : length ps ≤ 65535
+      pub short : lent ≤ 2 ^ 24
+      pub another : length past < 64
+      pub page : startOn (now .page) (length past) + length (bytesOf st own) ≤ st .size
+      pub work : peak st t (st .root) (fieldOf (st .root) .nullable) ps ≤ lent
+
     pub record Kept : Type 0 where
       -- two batches have equal bytes exactly where their rows are equal
       pub same-bytes : (i j : ℕ) → i < length past → j < length past → (batchOn (now .page) i ≡ batchOn (now .page) j) ↔ SameRows past i j
@@ -128,6 +140,8 @@ module _ (st : Setup) where
           → Refused (now .reply (Shelve t ps lent)) ↔ ((i : ℕ) × (i < length ps) × Refused (now .reply (Shelve t (getD ps i 0 ∷ []) lent)))
       pub refused-by-rules : (t : TapeView) (ps : List ℕ) (lent : ℕ) → (numberOf (now .reply (Shelve t ps lent)) ≡ 4 → ⊥)
           → Refused (now .reply (Shelve t ps lent)) ↔ ((i : ℕ) × (i < length ps) × (takes st t (getD ps i 0) ≡ false))
+      -- and where there is space, what the rules take is shelved
+      pub shelves : (t : TapeView) (ps : List ℕ) (lent : ℕ) (own : List (Value (st .root))) → NullFirst t → Roomy t ps lent own → now .reply (Shelve t ps lent) ≡ got (batch (length past))
       -- the numbers in the replies, and the cells, by the page alone
       pub shelved : (t : TapeView) (ps : List ℕ) (lent : ℕ) (r : Reply) → now .reply (Shelve t ps lent) ≡ got r → r ≡ batch (length past)
       pub released : now .reply Release ≡ cond (eqb (length past) 0) (refuse notThere) (got (batch (length past - 1)))
