@@ -27,7 +27,7 @@ use Rattle.batch.proofs.Worth.{worth, worths}
 use Rattle.laws.proofs.Told.{Told, told-got}
 use Rattle.batch.proofs.Records.{length-batch}
 use Rattle.batch.proofs.Sized.{sized-value, all-mapped}
-use Rattle.laws.proofs.Walks.{Holds, stopped, holds, holds-then, holds-skip, Walked, walked}
+use Rattle.laws.proofs.Walks.{Holds, stopped, holds, holds-then, holds-skip, Small, Walked, walked}
 use Rattle.batch.proofs.Columns.{length-columns}
 use Rattle.batch.specs.Laws.{Holdable, InFormat}
 use Rattle.batch.specs.Suited.{Sized, Full}
@@ -49,15 +49,15 @@ module _ (st : Setup) where
     few : All (λ c. c .slots < 2 ^ 31) (columns st (st .root) rows)
     fits : used st held + length (bytesOf st rows) ≤ st .size
 
-  added-from : (held : Held st) (t : TapeView) (ps : List ℕ) (end : ℕ) → used st held ≤ st .size
-      → Walked (st .size - used st held) (32 * length (nodes (st .root))) (columns st (st .root) (worths st t ps)) end → Added held (worths st t ps)
-  added-from held t ps end inside w =
+  added-from : (held : Held st) (t : TapeView) (ps : List ℕ) (lent end : ℕ) → used st held ≤ st .size
+      → Small lent (length ps) → Walked (Small lent (length ps)) (st .size - used st held) (32 * length (nodes (st .root))) (columns st (st .root) (worths st t ps)) end → Added held (worths st t ps)
+  added-from held t ps lent end inside small w =
       let force = fieldOf (st .root) .nullable in
       let long : length (bytesOf st (worths st t ps)) ≡ end =
       omega (arith, length-batch (columns st (st .root) (worths st t ps)), w .is, length-columns st (st .root) (worths st t ps)) in
       record {
-        sized = all-mapped st t (Sized st (st .root)) (worth st t (st .root) force) (sized-value st t (st .root) force) ps;
-        few = all-weaker (λ c. (c .nulls ≤ c .slots) × (c .slots < 2 ^ 31)) (λ c. c .slots < 2 ^ 31) (λ c h. h .1) (columns st (st .root) (worths st t ps)) (w .few);
+        sized = all-mapped (Sized st (st .root)) (worth st t (st .root) force) (sized-value st t (st .root) force) ps;
+        few = all-weaker (λ c. (c .nulls ≤ c .slots) × (c .slots < 2 ^ 31)) (λ c. c .slots < 2 ^ 31) (λ c h. h .1) (columns st (st .root) (worths st t ps)) (w .few small);
         fits = omega (arith, long, w .within);
       }
 
@@ -78,8 +78,8 @@ module _ (st : Setup) where
       go false true c p q = stopped
       go false false true p q = stopped
       go false false false p q =
-          holds-then (walked st t null free lent (omega (arith, ltb-false (2 ^ 24) lent q)) (st .root) (fieldOf (st .root) .nullable) ps top 0 (omega (arith, ltb-false 65535 (length ps) p)))
-          (λ end w. holds (added-from held t ps end inside w))
+          holds-then (walked st t null free lent (st .root) (fieldOf (st .root) .nullable) ps top 0)
+          (λ end w. holds (added-from held t ps lent end inside (omega (arith, ltb-false (2 ^ 24) lent q), omega (arith, ltb-false 65535 (length ps) p)) w))
 
   -- what holds of a shelf after any calls
   pub record Sound (held : Held st) : Type 0 where

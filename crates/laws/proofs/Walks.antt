@@ -29,6 +29,9 @@ pub data Holds {A : Type 0} (P : A → Type 0) : Got A → Type 0 where
   stopped : {r : Slip} → Holds P (refuse r)
   holds : {x : A} → P x → Holds P (got x)
 
+pub held-got : {A : Type 0} {P : A → Type 0} {x : A} → Holds P (got x) → P x
+held-got (holds h) = h
+
 pub holds-so : {A : Type 0} {P Q : A → Type 0} {m : Got A} → Holds P m → ((x : A) → P x → Q x) → Holds Q m
 holds-so stopped l = stopped
 holds-so (holds {x} h) l = holds (l x h)
@@ -67,21 +70,29 @@ room-granted free lent number top work c more = go (ltb free (top + sizeOf c)) (
     go false true p q = stopped
     go false false p q = holds (record { is = refl; within = ltb-false free (top + sizeOf c) p; enough = ltb-false lent (work + more) q })
 
-pub record Walked (free top : ℕ) (cs : List Column) (end : ℕ) : Type 0 where
+-- a short work list, and few positions
+abbrev pub Small : (lent positions : ℕ) → Type 0
+Small lent n = (lent < 2 ^ 31) × (n < 2 ^ 31)
+
+-- where columns end, from `top` on, and that a record can hold their numbers, if `small` holds
+pub record Walked (small : Type 0) (free top : ℕ) (cs : List Column) (end : ℕ) : Type 0 where
   pub is : end ≡ top + total cs
   pub within : end ≤ free
-  pub few : Few cs
+  pub few : small → Few cs
 
-append-walked : {free top next end : ℕ} (xs ys : List Column) → Walked free top xs next → Walked free next ys end → Walked free top (xs ++ ys) end
-append-walked xs ys v w =
-    record { is = omega (arith, v .is, w .is, total-append xs ys); within = w .within; few = all-append (λ c. (c .nulls ≤ c .slots) × (c .slots < 2 ^ 31)) xs ys (v .few) (w .few) }
+append-walked : {A B C : Type 0} {free top next end : ℕ} (xs ys : List Column) → (C → A) → (C → B) → Walked A free top xs next → Walked B free next ys end → Walked C free top (xs ++ ys) end
+append-walked xs ys f g v w = record {
+  is = omega (arith, v .is, w .is, total-append xs ys);
+  within = w .within;
+  few = λ s. all-append (λ c. (c .nulls ≤ c .slots) × (c .slots < 2 ^ 31)) xs ys (v .few (f s)) (w .few (g s));
+}
 
 module _ (st : Setup) (t : TapeView) (null : NullFirst t) where
-  module _ (free lent : ℕ) (small : lent < 2 ^ 31) where
+  module _ (free lent : ℕ) where
     mutual
-      pub walked : (c : Node) (force : Bool) (ps : List ℕ) (top work : ℕ) → length ps < 2 ^ 31
-          → Holds (Walked free top (columns st c (map (worth st t c force) ps))) (walk st t free lent c force ps top work)
-      walked (branch f b cs) force ps top work few =
+      pub walked : (c : Node) (force : Bool) (ps : List ℕ) (top work : ℕ)
+          → Holds (Walked (Small lent (length ps)) free top (columns st c (map (worth st t c force) ps))) (walk st t free lent c force ps top work)
+      walked (branch f b cs) force ps top work =
           let row = rowAt (st .settings) t f b cs force in
           let rows = map (λ p. accepted (row p)) ps in
           let items = joined (map (taken b (zeros cs)) rows) in
@@ -95,21 +106,21 @@ module _ (st : Setup) (t : TapeView) (null : NullFirst t) where
           let long = length-map ps (λ p. accepted (row p)) in
           rw cols-are
           (holds-each row ps _ (holds-then (room-granted free lent (f .number) top work (branchColumn b rows) more) (λ next g.
-          holds-then (walkedIn cs (below b force) items next (work + more) (omega (arith, g .enough)) (g .within)) (λ end w.
+          holds-then (walkedIn cs (below b force) items next (work + more) (g .within)) (λ end w.
           holds-skip (bare st t cs (below b force) (joined (map (slotsOf b) rows))) (holds
-          (record { is = omega (arith, w .is, g .is); within = w .within; few = ((omega (arith, slots-are), omega (arith, slots-are)), w .few) }))))))
-      walked (leaf f k) force ps top work few =
+          (record { is = omega (arith, w .is, g .is); within = w .within; few = λ s. ((omega (arith, slots-are), omega (arith, slots-are)), w .few (s .0, omega (arith, g .enough))) }))))))
+      walked (leaf f k) force ps top work =
           let os = map (λ p. accepted (leafAt st t f k p)) ps in
           let col = leafColumn (meaning st k .layout) (textWidth k) os in
           let slots-are = leaf-slots (meaning st k .layout) (textWidth k) os in
           let long = length-map ps (λ p. accepted (leafAt st t f k p)) in
           holds-each (leafAt st t f k) ps _ (holds-so (room-granted free lent (f .number) top work col 0) (λ next g.
-          record { is = omega (arith, g .is); within = g .within; few = ((omega (arith, slots-are), omega (arith, slots-are)), tt) }))
+          record { is = omega (arith, g .is); within = g .within; few = λ s. ((omega (arith, slots-are), omega (arith, slots-are)), tt) }))
 
-      walkedIn : (cs : Fields) (force : Bool) (items : List (List ℕ)) (top work : ℕ) → many cs * length items < 2 ^ 31 → top ≤ free
-          → Holds (Walked free top (columnsIn st cs (map (worthItem st t cs force) items))) (walkIn st t free lent cs force items top work)
-      walkedIn Fields.none force items top work few fit = holds (record { is = omega arith; within = fit; few = tt })
-      walkedIn (c ⊕ cs) force items top work few fit =
+      walkedIn : (cs : Fields) (force : Bool) (items : List (List ℕ)) (top work : ℕ) → top ≤ free
+          → Holds (Walked (Small lent (many cs * length items)) free top (columnsIn st cs (map (worthItem st t cs force) items))) (walkIn st t free lent cs force items top work)
+      walkedIn Fields.none force items top work fit = holds (record { is = omega arith; within = fit; few = λ s. tt })
+      walkedIn (c ⊕ cs) force items top work fit =
           let V = worth st t c (force || fieldOf c .nullable) in
           let W = worthItem st t cs force in
           let G = worthItem st t (c ⊕ cs) force in
@@ -120,5 +131,6 @@ module _ (st : Setup) (t : TapeView) (null : NullFirst t) where
           let few′ : suc (many cs) * length items ≡ many cs * length items + length items = suc-mul (many cs) (length items) in
           let n : length (map rest items) ≡ length items = length-map items rest in
           rw (heads, tails)
-          (holds-then (walked c (force || fieldOf c .nullable) (map first items) top work (omega (arith, length-map items first))) (λ next v.
-          holds-so (walkedIn cs force (map rest items) next work (rw n (omega arith)) (v .within)) (λ end w. append-walked xs ys v w)))
+          (holds-then (walked c (force || fieldOf c .nullable) (map first items) top work) (λ next v.
+          holds-so (walkedIn cs force (map rest items) next work (v .within))
+          (λ end w. append-walked xs ys (λ s. (s .0, omega (arith, length-map items first, s .1))) (λ s. (s .0, rw n (omega (arith, s .1)))) v w)))
