@@ -37,11 +37,15 @@ isValid c j = isMarked (c .validity) j
 abbrev pub width : (wide : Bool) → ℕ
 width wide = cond wide 8 4
 
+-- a text may have wide offsets, and a custom leaf has narrow ones
+abbrev pub isWide : LeafKind → Bool
+isWide (LeafKind.text wide) = wide
+isWide LeafKind.boolean = false
+isWide LeafKind.null = false
+isWide LeafKind.custom = false
+
 abbrev pub textWidth : LeafKind → ℕ
-textWidth (LeafKind.text wide) = width wide
-textWidth LeafKind.boolean = 4
-textWidth LeafKind.null = 4
-textWidth LeafKind.custom = 4
+textWidth k = width (isWide k)
 
 abbrev pub offset : (width : ℕ) → Column → ℕ → ℕ
 offset w c j = numberIn w (c .offsets) j

@@ -1,24 +1,21 @@
 -- The four calls of a shelf: what each answers, and what the shelf holds after.
-use mathlib.Core.Bool.{cond, _&&_}
+use mathlib.Core.Bool.{cond}
 use mathlib.Core.List.{List, [], _∷_, _++_}
 use Prim.Native.Nat.{ℕ, _-_}
 use lib.Dec.{eqb, ltb}
 use lib.ListN.{length, getD, take}
-use Rattle.schema.specs.Tree.{nodes}
 use Rattle.tape.specs.View.{TapeView}
 use Rattle.slip.specs.Slips.{Got, refuse, got, then, notThere}
 use Rattle.batch.specs.Values.{Setup}
-use Rattle.laws.specs.Shelf.{Held, bytesOf, shelve, used, rowsOf}
-use Rattle.batch.specs.Batch.{recordIn}
+use Rattle.laws.specs.Shelf.{Held, shelve, used, rowsOf}
+use Rattle.batch.specs.Batch.{bytesOf}
 use Rattle.batch.specs.Cells
+use Rattle.batch.specs.Cells.{batchCell}
 
 -- the cell of a batch's node in a slot, if there are such a batch, node and slot
 abbrev pub cellAt : (st : Setup) → Held st → (batch node slot : ℕ) → Got Cells.Cell
 cellAt st held i n slot =
-    let bytes = bytesOf st (getD held i []) in
-    cond (ltb i (length held) && (ltb n (length (nodes (st .root))) && ltb slot (recordIn bytes n .slots)))
-    (got (Cells.cellIn st (used st (take i held)) bytes n (getD (nodes (st .root)) n (st .root)) slot))
-    (refuse notThere)
+    cond (ltb i (length held)) (batchCell st (used st (take i held)) (bytesOf st (getD held i [])) n slot) (refuse notThere)
 
 -- the number of the newest batch
 abbrev pub release : (st : Setup) → Held st → Got ℕ
