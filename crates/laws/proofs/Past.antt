@@ -16,7 +16,7 @@ use Rattle.slip.specs.Slips.{Got, refuse, got, then, notThere, slip}
 use Rattle.batch.specs.Values.{Setup, Value, value}
 use Rattle.batch.specs.Batch.{hidden, bytesOf}
 use Rattle.laws.specs.Shelf.{Held, badPosition, isFull, walk, used, page, shelve, rowsOf}
-use Rattle.laws.specs.Calls.{Call, Shelve, Cell, Release, Count, Reply, answer, after, run}
+use Rattle.laws.specs.Calls.{Call, Shelve, Torn, Cell, Release, Count, Reply, answer, after, run}
 use Rattle.laws.specs.Laws.{takes}
 use Rattle.laws.specs.History.{Past, later, Idle, FromOpened, history, batchOn, startOn, from, rows, row, SameRows, AlwaysKept, AlwaysInFormat}
 use Rattle.batch.proofs.Worth.{worths, each-parts}
@@ -60,6 +60,7 @@ module _ (st : Setup) where
       go (got n) told =
           let is = rows-are st held t ps (told-got told) in
           rw is (map-append rowsFrom past ((t, ps) ∷ []) ∙ ap₂ (λ a b. a ++ (b ∷ [])) e is ∙ sym (map-append got held (worths st t ps ∷ [])))
+  tells-after past held Torn e = e
   tells-after past held (Cell i n slot) e = go (answer st held (Cell i n slot))
     where
       go : (m : Got Reply) → Tells (later past (Cell i n slot) m) held
@@ -102,6 +103,7 @@ module _ (st : Setup) where
       go : (m : Got (List (Value (st .root)))) → getD (elim m [ refuse r ↦ held | got own ↦ held ++ (own ∷ []) ]) i [] ≡ getD held i []
       go (refuse r) = refl
       go (got own) = getD-append-left held (own ∷ []) [] i h
+  stays-held held Torn i h l = refl
   stays-held held (Cell j n slot) i h l = refl
   stays-held held Release i h l = getD-take (length held - 1) held i [] (omega (arith, length-take (length held - 1) held))
   stays-held held Count i h l = refl
@@ -113,6 +115,7 @@ module _ (st : Setup) where
           → page st (elim (then m (λ _. rowsOf st t ps)) [ refuse r ↦ held | got own ↦ held ++ (own ∷ []) ]) ≡ page st held
       go (refuse r) h = refl
       go (got n) h = absurd h
+  idle-is held Torn = λ h. refl
   idle-is held (Cell i n slot) = λ h. refl
   idle-is held Release = go (eqb (length held) 0) refl
     where
@@ -209,6 +212,7 @@ always-kept st well small done left null =
           (shelve-spaced st held t null ps lent e (r .few) (r .short) (rw n at (r .another)) (rw (← is, ← start) (r .page)) (r .work))
           ∙ ap (λ k. got (Reply.batch k)) (sym n);
       shelved = λ t ps lent r e. batch-number held (shelve st held t ps lent) (numbered st held t ps lent) r e ∙ ap Reply.batch (sym n);
+      torn = refl;
       released = rw n (release-is (length held - 1) (eqb (length held) 0));
       counted = ap₂ (λ a b. got (Reply.counts (a, st .size - b))) (sym n) (sym (ap (startOn st (page st held)) n ∙ end-of-all st well small held sound));
       cells = λ i k slot. rw n (ap (λ m. then m (λ c. got (Reply.cell c))) (cell-is st well small held sound i k slot));
