@@ -1,5 +1,5 @@
 // A batch: columns of row values as bytes.
-ghost use Rattle.batch.specs.Laws.{BatchesInFormat, BatchesFilled, BatchesReadBack, SameBytes, WholeWords};
+ghost use Rattle.batch.specs.Laws.{BatchesInFormat, BatchesFilled, BatchesReadBack, SameBytes, WholeWords, AllBytes};
 
 pub mod cell;
 pub mod record;
@@ -11,6 +11,7 @@ pub fn laws() -> u8
     ensures back { λ _. ⌜ BatchesReadBack ⌝ }
     ensures same { λ _. ⌜ SameBytes ⌝ }
     ensures words { λ _. ⌜ WholeWords ⌝ }
+    ensures bytes { λ _. ⌜ AllBytes ⌝ }
 {
     0
 }

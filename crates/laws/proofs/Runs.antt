@@ -20,7 +20,7 @@ use Rattle.batch.specs.Batch.{columns, wordIn, columnIn, bytesOf}
 use Rattle.laws.specs.Shelf.{Held, badPosition, walk, used, page, shelve, rowsOf}
 use Rattle.batch.specs.Cells
 use Rattle.batch.specs.Cells.{batchCell}
-use Rattle.laws.specs.Calls.{cellAt, Call, Shelve, Cell, Release, Count, answer, after, run}
+use Rattle.laws.specs.Calls.{cellAt, Call, Shelve, Torn, Cell, Release, Count, answer, after, run}
 use Rattle.laws.specs.Laws.{takes}
 use Rattle.laws.specs.History.{FromOpened, cellFrom, seen, extentAt, startOn, batchOn, cellOn, readBack}
 use Rattle.batch.proofs.Worth.{worth, worths}
@@ -56,7 +56,7 @@ module _ (st : Setup) where
       let long : length (bytesOf st (worths st t ps)) ≡ end =
       omega (arith, length-batch (columns st (st .root) (worths st t ps)), w .is, length-columns st (st .root) (worths st t ps)) in
       record {
-        sized = all-mapped st t (Sized st (st .root)) (worth st t (st .root) force) (sized-value st t (st .root) force) ps;
+        sized = all-mapped (Sized st (st .root)) (worth st t (st .root) force) (sized-value st t (st .root) force) ps;
         few = all-weaker (λ c. (c .nulls ≤ c .slots) × (c .slots < 2 ^ 31)) (λ c. c .slots < 2 ^ 31) (λ c h. h .1) (columns st (st .root) (worths st t ps)) (w .few small);
         fits = omega (arith, long, w .within);
       }
@@ -101,6 +101,7 @@ module _ (st : Setup) where
       go (got n) told (holds a) =
           rw (rows-are st held t ps (told-got told))
           (record { kept = all-append Kept held (worths st t ps ∷ []) (s .kept) (record { sized = a .sized; few = a .few; full = full-rows t ps (told-got told); within = omega (arith, a .fits) }, tt); inside = omega (arith, used-push st held (worths st t ps), a .fits) })
+  sound-after held Torn null s = s
   sound-after held (Cell i n slot) null s = s
   sound-after held Release null s =
       record { kept = all-take Kept (length held - 1) held (s .kept); inside = omega (arith, s .inside, used-take st (length held - 1) held) }
