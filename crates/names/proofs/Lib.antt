@@ -1,0 +1,3 @@
+pub mod Lowests
+pub mod Fields
+pub mod Seats

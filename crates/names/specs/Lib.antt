@@ -1,1 +1,5 @@
 pub mod Lowest
+pub mod Scans
+pub mod Hash
+pub mod Slots
+pub mod Indexes

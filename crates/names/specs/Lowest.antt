@@ -22,3 +22,7 @@ lowest (n ∷ ns) s = cond (same n s) (Some 0) (onward (lowest ns s))
 abbrev pub Lowest : List (List ℕ) → List ℕ → Option ℕ → Type 0
 Lowest ns s None = (j : ℕ) → j < length ns → getD ns j [] ≡ s → ⊥
 Lowest ns s (Some k) = (k < length ns) × (getD ns k [] ≡ s) × ((j : ℕ) → j < k → getD ns j [] ≡ s → ⊥)
+
+-- what `lowest` answers is just that
+abbrev pub AlwaysLowest : Type 0
+AlwaysLowest = (ns : List (List ℕ)) (s : List ℕ) → Lowest ns s (lowest ns s)

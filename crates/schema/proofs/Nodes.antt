@@ -2,7 +2,7 @@
 use Prim.Native.Nat.{ℕ, zero, suc, _+_, _-_, _<_, _≤_}
 use mathlib.Core.Path.{_≡_, refl, sym, ap, _∙_, subst}
 use mathlib.Core.Bool.{Bool, true, false}
-use mathlib.Core.List.{List, [], _∷_, _++_, map as mapped}
+use mathlib.Core.List.{List, _∷_, _++_, map as mapped}
 use native.Mathlib.Omega.{arith}
 use native.Mathlib.Decide.{decLt}
 use lib.ListN.{length, getD, length-append}
@@ -11,7 +11,7 @@ use Rattle.std.specs.shelf.Lists.{All}
 use Rattle.std.proofs.shelf.Lists.{map-append, getD-append-left, getD-append-right}
 use Rattle.std.proofs.shelf.Elements.{all-append}
 use Rattle.bytes.specs.Lists.{between}
-use Rattle.schema.specs.Tree.{Branch, struct, list, fixed, map, Node, branch, leaf, Fields, _⊕_, fieldOf, childrenOf, nodes, nodesIn, nodeAt, Childed}
+use Rattle.schema.specs.Tree.{Node, branch, leaf, Fields, _⊕_, fieldOf, childrenOf, nodes, nodesIn, nodeAt, Childed}
 use Rattle.schema.specs.Layout.{recordCount, endAt}
 use Rattle.schema.specs.Held.{Limited, bit, Written, Held, HeldIn}
 use Rattle.schema.specs.Held.Held.{node}
@@ -56,6 +56,10 @@ mutual
 pub held-end : {rs ns : List ℕ} {i : ℕ} {t : Node} → Held rs ns i t → (i < endAt rs i) × (endAt rs i ≤ recordCount rs)
 held-end {t = t} h = (omega (arith, held-written h .end, ap length (nodes-is t)), omega (arith, held-written h .end, held-ends h))
 
+-- a node, and then all that stands below its children
+pub held-size : {rs ns : List ℕ} {i : ℕ} {t : Node} → Held rs ns i t → endAt rs i ≡ i + 1 + length (nodesIn (childrenOf t))
+held-size {t = t} h = omega (arith, held-written h .end, ap length (nodes-is t))
+
 -- the tree of each node below is held from its own number on
 mutual
   held-tree : {rs ns : List ℕ} {i : ℕ} {t : Node} → Held rs ns i t → (j : ℕ) (z : Node) → j < length (nodes t) → Held rs ns (i + j) (getD (nodes t) j z)
@@ -85,7 +89,7 @@ pub all-held : (rs ns : List ℕ) → AllHeld rs ns
 all-held rs ns root o i h = held-at o i h
 
 -- the numbers of the nodes
-between-more : (i n k : ℕ) → between i (n + k) ≡ between i n ++ between (i + n) k
+pub between-more : (i n k : ℕ) → between i (n + k) ≡ between i n ++ between (i + n) k
 between-more i zero k = let e : 0 + k ≡ k = omega arith in let e′ : i + 0 ≡ i = omega arith in rw (e, e′) refl
 between-more i (suc n) k =
     let e : suc n + k ≡ suc (n + k) = omega arith in
