@@ -46,13 +46,13 @@ module _ (place step : ℕ) (es A B : List ℕ) (j : ℕ) where
       let m : length (take (j + 1) es) ≡ j + 1 = length-take-le (j + 1) es (omega arith) in
       record {
         put = λ i l. ⊎-elim
-          (λ q. ap (λ a. getD (set B (place + j * step) x) (place + a * step) 0) q ∙ getD-set-same B (place + j * step) x 0 room ∙ e ∙ sym (getD-take (j + 1) es j 0 (omega arith)) ∙ ap (λ a. getD (take (j + 1) es) a 0) (sym q))
-          (λ q. let less : i < j = omega arith in
+            (λ q. ap (λ a. getD (set B (place + j * step) x) (place + a * step) 0) q ∙ getD-set-same B (place + j * step) x 0 room ∙ e ∙ sym (getD-take (j + 1) es j 0 (omega arith)) ∙ ap (λ a. getD (take (j + 1) es) a 0) (sym q))
+            (λ q. let less : i < j = omega arith in
             let other : place + i * step ≢ place + j * step = λ y. omega (arith, further step i j less) in
             getD-set-other B (place + j * step) (place + i * step) x 0 other ∙ w .put i (omega arith) ∙ getD-take j es i 0 less ∙ sym (getD-take (j + 1) es i 0 (omega arith)))
-          (cases-eq i j);
+            (cases-eq i j);
         kept = λ q no.
-          getD-set-other B (place + j * step) q x 0 (no j (omega arith)) ∙ w .kept q (λ i l. no i (omega arith));
+            getD-set-other B (place + j * step) q x 0 (no j (omega arith)) ∙ w .kept q (λ i l. no i (omega arith));
       }
 
 pub spread-none : (place step : ℕ) (A : List ℕ) → Spread place step [] A A
@@ -66,11 +66,11 @@ pub spread-singles : (stride at : ℕ) (es A B : List ℕ) → Spread at 1 es A 
 spread-singles stride at es A B w =
     record {
       kept = λ k i h l. let z : k ≡ 0 = omega arith in
-        ap (λ m. cell B stride m i) z ∙ first-cell B stride i ∙ w .kept i (λ j _ e. omega arith) ∙ sym (first-cell A stride i) ∙ ap (λ m. cell A stride m i) (sym z);
+          ap (λ m. cell B stride m i) z ∙ first-cell B stride i ∙ w .kept i (λ j _ e. omega arith) ∙ sym (first-cell A stride i) ∙ ap (λ m. cell A stride m i) (sym z);
       put = λ k i h l. let z : k ≡ 0 = omega arith in
-        let m : i < length es = omega (arith, length-map es (λ e. e ∷ [])) in
-        ap (λ m. cell B stride m (at + i)) z ∙ first-cell B stride (at + i) ∙ ap (λ n. getD B n 0) (let q : at + i ≡ at + i * 1 = omega arith in q) ∙ w .put i m
-        ∙ sym (ap (λ a. getD a k 0) (getD-map (λ e. e ∷ []) es i 0 [] m) ∙ ap (λ a. getD (getD es i 0 ∷ []) a 0) z);
+          let m : i < length es = omega (arith, length-map es (λ e. e ∷ [])) in
+          ap (λ m. cell B stride m (at + i)) z ∙ first-cell B stride (at + i) ∙ ap (λ n. getD B n 0) (let q : at + i ≡ at + i * 1 = omega arith in q) ∙ w .put i m
+          ∙ sym (ap (λ a. getD a k 0) (getD-map (λ e. e ∷ []) es i 0 [] m) ∙ ap (λ a. getD (getD es i 0 ∷ []) a 0) z);
     }
 
 pub singles-zeros : (n : ℕ) → singles (replicate n 0) ≡ replicate n (0 ∷ [])
@@ -82,11 +82,11 @@ pub spread-item : (kids stride at : ℕ) (xs A B : List ℕ) → Spread at strid
 spread-item kids stride at xs A B w room n =
     record {
       kept = λ k i h l. w .kept (k * stride + i) (λ j _ e.
-        let same : k ≡ j = one-place stride k j i at (omega arith) room (omega arith) in
-        omega (arith, ap (λ m. m * stride) same));
+          let same : k ≡ j = one-place stride k j i at (omega arith) room (omega arith) in
+          omega (arith, ap (λ m. m * stride) same));
       put = λ k i h l. let z : i ≡ 0 = omega arith in
-        ap (λ q. getD B q 0) (let q : k * stride + (at + i) ≡ at + k * stride = omega arith in q) ∙ w .put k (omega arith)
-        ∙ ap (λ a. getD (getD (xs ∷ []) a []) k 0) (sym z);
+          ap (λ q. getD B q 0) (let q : k * stride + (at + i) ≡ at + k * stride = omega arith in q) ∙ w .put k (omega arith)
+          ∙ ap (λ a. getD (getD (xs ∷ []) a []) k 0) (sym z);
     }
 
 -- rows one after another
@@ -99,14 +99,14 @@ module _ (kids stride : ℕ) (done items : List (List ℕ)) (A B C : List ℕ) w
       record {
         kept = λ k i h l. absurd (omega arith);
         put = λ k i h l. ⊎-elim
-          (λ q.
+            (λ q.
             ap (λ n. cell C stride k n) (let z : 0 + i ≡ i = omega arith in z) ∙ w .kept k i h q ∙ ap (λ n. cell B stride k n) (let z : i ≡ 0 + i = omega arith in z) ∙ v .put k i h q
             ∙ ap (λ a. getD a k 0) (sym (getD-append-left done items [] i q)))
-          (λ q.
+            (λ q.
             let m = i - length done in
             ap (λ n. cell C stride k n) (let z : 0 + i ≡ length done + m = omega arith in z) ∙ w .put k m h (omega (arith, length-append done items))
             ∙ ap (λ a. getD a k 0) (sym (getD-append-right done items (length done) i [] refl q)))
-          (cases-lt i (length done));
+            (cases-lt i (length done));
       }
 
 module _ (kids stride : ℕ) (items : List (List ℕ)) (A C : List ℕ) (w : Filled kids stride 0 items A C) (n : length items ≡ stride) where
@@ -118,19 +118,19 @@ module _ (kids stride : ℕ) (items : List (List ℕ)) (A C : List ℕ) (w : Fil
       let f = further stride k kids h in
       let len : length (part C (k * stride) stride) ≡ stride = search (needs, places) in
       same-lists _ _ (len ∙ sym (length-map items (λ i. getD i k 0) ∙ n)) (λ i d l.
-        getD-take stride (drop (k * stride) C) i d (omega arith) ∙ getD-drop (k * stride) C i d
-        ∙ getD-default C (k * stride + i) d 0 (omega arith) ∙ from-first k i h (omega arith)
-        ∙ sym (getD-map (λ x. getD x k 0) items i [] d (omega arith)))
+      getD-take stride (drop (k * stride) C) i d (omega arith) ∙ getD-drop (k * stride) C i d
+      ∙ getD-default C (k * stride + i) d 0 (omega arith) ∙ from-first k i h (omega arith)
+      ∙ sym (getD-map (λ x. getD x k 0) items i [] d (omega arith)))
 
   pub filled-positions : (t : TapeView) → Positions t items → (q : ℕ) → q < kids * stride → isPosition t (getD C q 0) ≡ true
   filled-positions t ps q h =
       ⊎-elim
       (λ z. absurd (omega (arith, ap (λ s. kids * s) z)))
       (λ some.
-        let pos : 0 < stride = omega arith in
-        let k = q / stride in
-        let i = q % stride in
-        let l : i < stride = mod-lt q pos in
-        let e : q ≡ k * stride + i = sym (div-add-mod' q stride) in
-        ap (λ a. isPosition t (getD C a 0)) e ∙ ap (isPosition t) (from-first k i (div-lt-iff-lt-mul pos .1 h) l) ∙ ps i k)
+      let pos : 0 < stride = omega arith in
+      let k = q / stride in
+      let i = q % stride in
+      let l : i < stride = mod-lt q pos in
+      let e : q ≡ k * stride + i = sym (div-add-mod' q stride) in
+      ap (λ a. isPosition t (getD C a 0)) e ∙ ap (isPosition t) (from-first k i (div-lt-iff-lt-mul pos .1 h) l) ∙ ps i k)
       (cases-eq stride 0)

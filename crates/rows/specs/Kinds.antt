@@ -1,9 +1,10 @@
 -- A row as it is read: what it is, and what the children get of it.
+use mathlib.Core.Path.{_≡_}
 use mathlib.Core.Bool.{Bool, true, false, cond, not, _||_, _&&_}
 use mathlib.Core.List.{List, [], _∷_}
 use mathlib.Core.Option.{Option}
 use Prim.Native.Nat.{ℕ}
-use lib.ListN.{length}
+use lib.ListN.{length, replicate}
 use Rattle.bytes.specs.Lists.{isSome}
 use Rattle.slip.specs.Slips.{slip, Got, refuse, got, accepted}
 use Rattle.tape.specs.Layout.{the}
@@ -12,7 +13,11 @@ use Rattle.tape.specs.View.{isAt}
 use Rattle.schema.specs.Tree.{Field, Fields, Branch, LeafKind, leaf, _⊕_}
 use Rattle.batch.specs.Rows.{rowAt}
 use Rattle.batch.specs.Values.{taken, zeros}
-use Rattle.batch.specs.Batch.{nulls}
+use Rattle.batch.specs.Batch.{nulls as nullsOf}
+use Rattle.columns.specs.Areas.{branchOf}
+use Rattle.columns.specs.Plans.{bytesOf}
+use Rattle.columns.specs.Spans.{Suits, Laid}
+use Rattle.columns.specs.declared.spans.Spans.{Spans}
 use Rattle.rows.specs.declared.Reading.{Reading}
 use Rattle.rows.specs.declared.kind.Row.{Row}
 use Rattle.rows.specs.declared.passes.Counted.{Counted}
@@ -55,4 +60,13 @@ rowSize b cs o = record { null = not (isSome o); items = length (taken b (zeros 
 
 -- how many items some rows have in each child, and how many rows are null
 abbrev pub countsOf : Branch → Fields → List (Option (List (List ℕ))) → Counted
-countsOf b cs os = record { items = length (itemsOf b cs os); nulls = nulls os }
+countsOf b cs os = record { items = length (itemsOf b cs os); nulls = nullsOf os }
+
+-- spans that were made for these rows of a branch, and nothing of them is written yet
+pub record Suited (width : ℕ) (b : Branch) (s : Spans) (out : List ℕ) (os : List (Option (List (List ℕ)))) : Type 0 where
+  pub shape : branchOf (s .shape) ≡ b
+  pub suits : Suits width b
+  pub laid : Laid s
+  pub slots : length os ≡ s .plan .slots
+  pub nulls : nullsOf os ≡ s .plan .nulls
+  pub blank : out ≡ replicate (bytesOf (s .plan)) 0

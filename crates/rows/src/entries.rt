@@ -10,7 +10,13 @@ ghost use Rattle.rows.specs.Filling.{Spread};
 use tape::Tape;
 
 // Writes the entries of the list at `p` into every `step`th place from `from` on, and counts them.
-pub(crate) fn put_entries(tape: Tape<'_>, p: u32, work: &mut [u32], from: usize, step: usize) -> usize
+pub(crate) fn put_entries(
+    tape: Tape<'_>,
+    p: u32,
+    work: &mut [u32],
+    from: usize,
+    step: usize,
+) -> usize
     requires opened { ⌜ Opened tape ⌝ }
     requires position { ⌜ isPosition (viewOf tape) p ≡ true ⌝ }
     requires list { ⌜ isAt (viewOf tape) (the "[") p ≡ true ⌝ }

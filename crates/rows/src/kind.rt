@@ -9,9 +9,11 @@ ghost use Rattle.tape.specs.Layout.{the};
 ghost use Rattle.tape.specs.Opens.{Opened, viewOf};
 ghost use Rattle.tape.specs.View.{isAt, isPosition};
 ghost use Rattle.schema.specs.Tree.{Branch, Fields, many};
+ghost use Rattle.columns.specs.Areas.{branchOf};
 ghost use Rattle.rows.specs.Kinds.{rowIn, itemsIn, rowThere, rowSize, bracket, beginsAt};
 ghost use Rattle.rows.specs.Filling.{Filled, Positions};
 use crate::Reading;
+use columns::shape::Shape;
 use slip::Fault;
 use tape::Tape;
 use tape::element::TapeElement;
@@ -31,13 +33,23 @@ pub(crate) trait RowKind {
 
     ghost ready: { Self → Type 0 };
 
+    // What the branch is.
+    fn shape(&self) -> Shape
+        ensures { λ r. ⌜ branchOf r ≡ branch (now (self .entry)) ⌝ };
+
+    // How many children it has.
+    fn kids(&self) -> usize
+        requires { ⌜ ready (now self) ⌝ }
+        ensures many { λ r. ⌜ r ≡ many (children (now (self .entry))) ⌝ }
+        ensures few { λ r. ⌜ r ≤ 64 ⌝ };
+
     // What the row at `p` is, or why it is refused.
     fn check(&self, reading: Reading<'_>, p: u32) -> Result<Row, Fault>
         requires ready { ⌜ ready (now self) ⌝ }
         requires opened { ⌜ Opened (reading .tape) ⌝ }
         requires position { ⌜ isPosition (viewOf (reading .tape)) p ≡ true ⌝ }
         ensures said { λ r. ⌜ answerOf r ≡ then (rowIn (reading .entry) (branch (now (self .entry))) (children (now (self .entry))) p) (λ o. got (rowSize (branch (now (self .entry))) (children (now (self .entry))) o)) ⌝ }
-        ensures few { λ r. ⌜ made r (λ row. row .items ≤ 2 ^ 24) ⌝ };
+        ensures few { λ r. ⌜ made r (λ row. (row .items ≤ 2 ^ 24) × (many (children (now (self .entry))) ≡ 0 → row .items ≤ 1)) ⌝ };
 
     // Writes the positions that the row at `p` gives to the children, from slot `at` of each on.
     fn fill(&self, reading: Reading<'_>, p: u32, work: &mut [u32], stride: usize, at: usize) -> Row
@@ -87,11 +99,17 @@ pub(crate) fn begins(reading: Reading<'_>, list: bool, p: u32) -> Result<bool, F
         return Ok(true);
     }
     if !reading.in_force {
-        return Err(Fault::WrongKind { node: reading.node, position: p });
+        return Err(Fault::WrongKind {
+            node: reading.node,
+            position: p,
+        });
     }
     if is_null(reading.tape, p) || reading.settings.lenient {
         Ok(false)
     } else {
-        Err(Fault::WrongKind { node: reading.node, position: p })
+        Err(Fault::WrongKind {
+            node: reading.node,
+            position: p,
+        })
     }
 }

@@ -71,9 +71,12 @@ loop-at-again c =
     let end = c .next-end .result - 1 in
     let a = steps-ahead t (c .loop-at-test .taken) (c .loop-at .inv .0) in
     let f = ahead es (c .loop-at .n) (c .loop-at .at) _ (c .loop-at .inv .1 ∙ onward-more t (c .loop-at-test .taken) (c .loop-at .inv .0)) in
-    let room : c .args .from + c .loop-at .n * c .args .step < length (c .loop-at .work) = omega (arith, c .pre .room (c .loop-at .n) (f .0)) in
-    (subst (λ q. Steps t q end) (sym (c .next-at .ensures)) (a .rest), f .2 ∙ ap (λ q. onward t q end) (sym (c .next-at .ensures)), omega (arith, f .0),
-      spread-more (c .args .from) (c .args .step) es (c .args .work .now) (c .loop-at .work) (c .loop-at .n) (c .loop-at .inv .3) (f .0) (c .pre .apart) room (c .loop-at .at) (sym (f .1)))
+    let room : c .args .from + c .loop-at .n * c .args .step < length (c .loop-at .work) = omega (arith, c .pre .room (c .loop-at .n) (f .0)) in (
+      subst (λ q. Steps t q end) (sym (c .next-at .ensures)) (a .rest),
+      f .2 ∙ ap (λ q. onward t q end) (sym (c .next-at .ensures)),
+      omega (arith, f .0),
+      spread-more (c .args .from) (c .args .step) es (c .args .work .now) (c .loop-at .work) (c .loop-at .n) (c .loop-at .inv .3) (f .0) (c .pre .apart) room (c .loop-at .at) (sym (f .1)),
+    )
 
 pub returns : need.returns
 returns c =

@@ -33,7 +33,7 @@ returns-then-not-branch c =
     let cs = named ([] ∷ []) in
     let e : beginsAt r true (c .args .p) ≡ got false = sym (c .in-Continue-begins .ensures tt) ∙ ap got (c .if-not-branch .taken) in
     let sized : ℕ → Got Row = λ m. got (record { null = true; items = m }) in
-    record { said = ap sized (sym (length-replicate count (zeros cs))) ∙ said-got r (fixed count) cs (c .args .p) none (row-null r cs (c .args .p) (fixed count) e); few = c .pre .ready }
+    record { said = ap sized (sym (length-replicate count (zeros cs))) ∙ said-got r (fixed count) cs (c .args .p) none (row-null r cs (c .args .p) (fixed count) e); few = (c .pre .ready, λ z. omega arith) }
 
 pub returns-then-entry-count-self : need.returns-then-entry-count-self
 returns-then-entry-count-self c =
@@ -59,5 +59,5 @@ returns c =
     let sized : ℕ → Got Row = λ m. got (record { null = false; items = m }) in
     record {
       said = ap sized (sym (length-map es (λ x. x ∷ []) ∙ n)) ∙ said-got r (fixed count) cs p (some (singles es)) (fixed-there r cs p count (begins-bracket r true p e) n);
-      few = c .pre .ready;
+      few = (c .pre .ready, λ z. omega arith);
     }

@@ -39,7 +39,7 @@ returns-then-branch c =
     let sized : ℕ → Got Row = λ m. got (record { null = false; items = m }) in
     record {
       said = ap sized n ∙ said-got r b cs p (some (singles es)) (row-there r cs p b e);
-      few = omega (arith, c .entry-count .ensures, few-entries t (c .pre .opened) p (list-law t (c .pre .opened) p (c .pre .position) (begins-bracket r true p e)));
+      few = (omega (arith, c .entry-count .ensures, few-entries t (c .pre .opened) p (list-law t (c .pre .opened) p (c .pre .position) (begins-bracket r true p e))), λ z. omega arith);
     }
 
 pub returns-else-branch : need.returns-else-branch
@@ -48,4 +48,4 @@ returns-else-branch c =
     let b = list (c .args .self .now .view) (c .args .self .now .wide) in
     let cs = named ([] ∷ []) in
     let e : beginsAt r true (c .args .p) ≡ got false = sym (c .in-Continue-begins .ensures tt) ∙ ap got (c .if-branch .left) in
-    record { said = said-got r b cs (c .args .p) none (row-null r cs (c .args .p) b e); few = omega arith }
+    record { said = said-got r b cs (c .args .p) none (row-null r cs (c .args .p) b e); few = (omega arith, λ z. omega arith) }
