@@ -4,7 +4,7 @@ use mathlib.Core.Bool.{Bool, true, false, cond}
 use mathlib.Core.List.{List, [], _∷_, _++_, map, append-assoc}
 use mathlib.Core.Option.{Option, none, some}
 use Prim.Native.Nat.{ℕ, zero, suc, _+_, _*_, _^_, _<_, _≤_}
-use native.Mathlib.Nat.{zero-add}
+use native.Mathlib.Nat.{min-eq-left, zero-add}
 use native.Mathlib.Omega.{arith}
 use lib.Dec.{eqb, eqb·suc-zero}
 use lib.ListN.{length, getD, drop, replicate, length-map, length-take, length-drop}
@@ -22,9 +22,10 @@ use Rattle.slip.specs.Slips.{Got, got, then, each}
 use Rattle.batch.specs.Values.{Setup, Value, Item, meaning, hides, taken}
 use Rattle.batch.specs.Format.{Column, isValid, offset, extent, span, leafIn, textWidth, valueIn, itemIn}
 use Rattle.batch.specs.Batch.{branchColumn, leafColumn, hiddenItem, columns, columnsIn, wordIn, columnIn}
-use Rattle.batch.specs.Cells.{Cell, cellOf, branchCell, leafCell, lying, cellIn, read, readItem}
+use Rattle.batch.specs.Cells.{Cell, cellOf, shapeCell, branchShape, leafCell, lying, reach, cellIn, read, readItem}
 use Rattle.batch.proofs.Records.{AllStored, stored-append}
-use Rattle.batch.proofs.Sized.{Present, Counted, Sized, SizedItem, hidden-sized-item}
+use Rattle.batch.specs.Suited.{Present, Counted, Sized, SizedItem}
+use Rattle.batch.proofs.Sized.{hidden-sized-item}
 use Rattle.batch.proofs.Columns.{branch-slots, leaf-slots, length-columns}
 use Rattle.batch.proofs.Slots.{Spanned, SlotIs, slot-is, InData, leaf-is, leaf-in}
 
@@ -36,6 +37,13 @@ pub all-taken : {A : Type 0} (b : Branch) (P : A → Type 0) (Q : List A → Typ
 all-taken b P Q a p [] h = tt
 all-taken b P Q a p (none ∷ os) h = all-append P (replicate (hides b) a) (joined (map (taken b a) os)) (all-replicate P (hides b) a p) (all-taken b P Q a p os (h .1))
 all-taken b P Q a p (some xs ∷ os) h = all-append P xs (joined (map (taken b a) os)) (h .0 .1) (all-taken b P Q a p os (h .1))
+
+pub all-present : {A : Type 0} (b : Branch) (P : A → Type 0) (a : A) → P a → (os : List (Option (List A))) → All (Present (All P)) os → All P (joined (map (taken b a) os))
+all-present {A} b P a p os h = all-taken b P (λ is. Unit {0}) a p os (all-weaker (Present (All P)) (Present (λ is. Unit {0} × All P is)) with-unit os h)
+  where
+    with-unit : (o : Option (List A)) → Present (All P) o → Present (λ is. Unit {0} × All P is) o
+    with-unit none h = tt
+    with-unit (some is) h = (tt, h)
 
 -- the head of what is left of a list
 drop-head : {A : Type 0} (xs : List A) (i : ℕ) (x : A) (ys : List A) (d : A) → drop i xs ≡ x ∷ ys → (getD xs i d ≡ x) × (i < length xs) × (drop (i + 1) xs ≡ ys)
@@ -85,26 +93,30 @@ module _ {A : Type 0} (b : Branch) (c : Column) (es : List A) (k : ℕ) where
       let at = s .items x refl in
       rw (s .valid) (ap some (map-between g es gives (span b c k .0) (span b c k .1) (at .0) ∙ at .1))
 
-  leads-span : (g : ℕ → Got A) → leads g (branchCell b c k) ≡ then (each g (between (span b c k .0) (span b c k .1))) (λ is. got (some is))
-  leads-span g = go b
+  leads-span : (g : ℕ → Got A) (place : ℕ) → leads g (shapeCell (branchShape b) place c k) ≡ then (each g (between (span b c k .0) (span b c k .1))) (λ is. got (some is))
+  leads-span g place = go b
     where
-      go : (b : Branch) → leads g (branchCell b c k) ≡ then (each g (between (span b c k .0) (span b c k .1))) (λ is. got (some is))
+      go : (b : Branch) → leads g (shapeCell (branchShape b) place c k) ≡ then (each g (between (span b c k .0) (span b c k .1))) (λ is. got (some is))
       go struct = refl
-      go (list v w) = refl
+      go (list false w) = refl
+      go (list true w) = refl
       go (fixed n) = refl
       go Branch.map = refl
 
-  leads-slot : (g : ℕ → Got A) → Reads g es → (o : Option (List A)) → SlotIs b c es k o → leads g (cond (isValid c k) (branchCell b c k) (cellOf 0 0 0)) ≡ got o
-  leads-slot g reads none s = rw (s .valid)
-  leads-slot g reads (some x) s =
+  leads-slot : (g : ℕ → Got A) (place : ℕ) → Reads g es → (o : Option (List A)) → SlotIs b c es k o → leads g (cond (isValid c k) (shapeCell (branchShape b) place c k) (cellOf 0 0 0)) ≡ got o
+  leads-slot g place reads none s = rw (s .valid)
+  leads-slot g place reads (some x) s =
       let at = s .items x refl in
-      rw (s .valid) (leads-span g ∙ ap (λ m. then m (λ is. got (some is))) (each-between g es reads (span b c k .0) (span b c k .1) (at .0) ∙ ap got (at .1)))
+      rw (s .valid) (leads-span g place ∙ ap (λ m. then m (λ is. got (some is))) (each-between g es reads (span b c k .0) (span b c k .1) (at .0) ∙ ap got (at .1)))
 
 -- a leaf's data on the page
-module _ (page : List ℕ) (place : ℕ) (c : Column) (lies : part page place (length (c .bytes)) ≡ c .bytes) where
-  lying-is : (from size : ℕ) → from + size ≤ length (c .bytes) → says page (lying (place + from) size) ≡ got (some (part (c .bytes) from size))
+module _ (page : List ℕ) (short : length page < 2 ^ 64) (place : ℕ) (c : Column) (lies : part page place (length (c .bytes)) ≡ c .bytes) where
+  lying-is : (from size : ℕ) → from + size ≤ length (c .bytes) → says page (lying (reach place from) size) ≡ got (some (part (c .bytes) from size))
   lying-is from zero h = refl
-  lying-is from (suc n) h = rw (eqb·suc-zero n) (ap (λ bs. got (some bs)) (part-in page (c .bytes) place (length (c .bytes)) from (suc n) lies h))
+  lying-is from (suc n) h =
+      let long = ap length lies in
+      let here : reach place from ≡ place + from = min-eq-left (omega (arith, length-take (length (c .bytes)) (drop place page), length-drop place page)) in
+      rw (eqb·suc-zero n, here) (ap (λ bs. got (some bs)) (part-in page (c .bytes) place (length (c .bytes)) from (suc n) lies h))
 
   says-valid : (v : Bool) (d : Cell) (bs : List ℕ) → says page d ≡ got (some bs) → says page (cond v d (cellOf 0 0 0)) ≡ got (cond v (some bs) none)
   says-valid true d bs e = e
@@ -118,14 +130,15 @@ module _ (page : List ℕ) (place : ℕ) (c : Column) (lies : part page place (l
   says-leaf None w k h = says-none (isValid c k)
   says-leaf Bit w k h = says-valid (isValid c k) (cellOf 1 (bitIn (c .bytes) k) 0) (bitIn (c .bytes) k ∷ []) refl
   says-leaf Text w k h =
-      says-valid (isValid c k) (lying (place + offset w c k) (extent w c k)) (part (c .bytes) (offset w c k) (extent w c k)) (lying-is (offset w c k) (extent w c k) h)
-  says-leaf Eight w k h = says-valid (isValid c k) (lying (place + 8 * k) 8) (part (c .bytes) (8 * k) 8) (lying-is (8 * k) 8 h)
+      says-valid (isValid c k) (lying (reach place (offset w c k)) (extent w c k)) (part (c .bytes) (offset w c k) (extent w c k)) (lying-is (offset w c k) (extent w c k) h)
+  says-leaf Eight w k h = says-valid (isValid c k) (lying (reach place (8 * k)) 8) (part (c .bytes) (8 * k) 8) (lying-is (8 * k) 8 h)
 
-data-lies : (page all bytes : List ℕ) (base place size : ℕ) → part page base (length all) ≡ all → part all place size ≡ bytes → part page (base + place) (length bytes) ≡ bytes
-data-lies page all [] base place size holds e = refl
-data-lies page all (b ∷ bs) base place size holds e =
+data-lies : (page : List ℕ) → length page < 2 ^ 64 → (all bytes : List ℕ) (base place size : ℕ) → part page base (length all) ≡ all → part all place size ≡ bytes → part page (reach base place) (length bytes) ≡ bytes
+data-lies page short all [] base place size holds e = refl
+data-lies page short all (b ∷ bs) base place size holds e =
     let inside : place + length (b ∷ bs) ≤ length all = omega (arith, length-take size (drop place all), length-drop place all, ap length e) in
-    part-in page all base (length all) place (length (b ∷ bs)) holds inside ∙ take-own size (drop place all) (b ∷ bs) e
+    let here : reach base place ≡ base + place = min-eq-left (omega (arith, ap length holds, length-take (length all) (drop base page), length-drop base page)) in
+    rw here (part-in page all base (length all) place (length (b ∷ bs)) holds inside ∙ take-own size (drop place all) (b ∷ bs) e)
 
 module _ (st : Setup) (all : List ℕ) where
   -- how many slots a node has
@@ -179,7 +192,7 @@ pub record Back {A : Type 0} (g : ℕ → A) (r : ℕ → Got A) (es : List A) :
   pub reads : Reads r es
 
 -- a batch's bytes, from the place `base` of a page on, and cells that answer from them
-module _ (st : Setup) (well : WellFormed (st .root)) (page : List ℕ) (base : ℕ) (all : List ℕ) (holds : part page base (length all) ≡ all) (short : length all < 2 ^ 31)
+module _ (st : Setup) (well : WellFormed (st .root)) (page : List ℕ) (base : ℕ) (all : List ℕ) (holds : part page base (length all) ≡ all) (short : length all < 2 ^ 31) (room : length page < 2 ^ 64)
     (ask : ℕ → ℕ → Got Cell)
     (asks : (n k : ℕ) → n < length (nodes (st .root)) → k < wordIn all n 0 → ask n k ≡ got (cellIn st base all n (getD (nodes (st .root)) n (st .root)) k)) where
   asked : (c : Node) (i : ℕ) (more : List Node) → Stands (st .root) c i more → (k : ℕ) → k < wordIn all i 0 → ask (fieldOf c .number) k ≡ got (cellIn st base all i c k)
@@ -197,14 +210,15 @@ module _ (st : Setup) (well : WellFormed (st .root)) (page : List ℕ) (base : �
         let G = itemIn st (columnIn all) cs in
         let R = readItem ask page cs in
         let few = few-items st all f b cs is (i + 1) (c .childed) (s .1) in
+        let place = reach base (wordIn all i 6) in
         record {
           gives = λ k d h.
               ap (λ c. cond (isValid c k) (some (map G (between (span b c k .0) (span b c k .1)))) none) (ap (columnIn all) (c .number) ∙ s .0 .is)
               ∙ gives-slot b col is k G (under .gives) (getD os k d) (slot-is (hiddenItem st cs) os b (All (SizedItem st cs)) z few k d h);
           reads = λ k d h.
               ap (λ m. then m (leads R)) (asked (branch f b cs) i (nodesIn cs ++ more) c k (rw (slots-are st all (branch f b cs) os i s .0) h))
-              ∙ ap (λ c. leads R (cond (isValid c k) (branchCell b c k) (cellOf 0 0 0))) (s .0 .is)
-              ∙ leads-slot b col is k R (under .reads) (getD os k d) (slot-is (hiddenItem st cs) os b (All (SizedItem st cs)) z few k d h);
+              ∙ ap (λ c. leads R (cond (isValid c k) (shapeCell (branchShape b) place c k) (cellOf 0 0 0))) (s .0 .is)
+              ∙ leads-slot b col is k R place (under .reads) (getD os k d) (slot-is (hiddenItem st cs) os b (All (SizedItem st cs)) z few k d h);
         }
     back (leaf f l) i more e os z s =
         let c = stands (st .root) well (leaf f l) i more e in
@@ -214,13 +228,13 @@ module _ (st : Setup) (well : WellFormed (st .root)) (page : List ℕ) (base : �
         let data′ : part all (wordIn all i 6) (wordIn all i 7) ≡ col .bytes = ap (λ c. c .bytes) (s .0 .is) in
         let small : length (col .bytes) < 2 ^ 31 =
         omega (arith, ap length data′, length-take (wordIn all i 7) (drop (wordIn all i 6) all), length-drop (wordIn all i 6) all) in
-        let place = base + wordIn all i 6 in
+        let place = reach base (wordIn all i 6) in
         record {
           gives = λ k d h. ap (λ c. leafIn layout w c k) (ap (columnIn all) (c .number) ∙ s .0 .is) ∙ leaf-is os layout l z small k d h;
           reads = λ k d h.
               ap (λ m. then m (says page)) (asked (leaf f l) i more c k (rw (slots-are st all (leaf f l) os i s .0) h))
               ∙ ap (λ c. says page (cond (isValid c k) (leafCell layout w place c k) (cellOf 0 0 0))) (s .0 .is)
-              ∙ says-leaf page place col (data-lies page all (col .bytes) base (wordIn all i 6) (wordIn all i 7) holds data′) layout w k (leaf-in os layout l z small k h)
+              ∙ says-leaf page room place col (data-lies page room all (col .bytes) base (wordIn all i 6) (wordIn all i 7) holds data′) layout w k (leaf-in os layout l z small k h)
               ∙ ap got (leaf-is os layout l z small k d h);
         }
 

@@ -24,15 +24,12 @@ use Rattle.batch.specs.Batch.{branchColumn, leafColumn, hidden, hiddenItem, co
 use Rattle.batch.proofs.Worth.{worth, worthItem, worth-is}
 use Rattle.batch.proofs.Tests.{all-both}
 use Rattle.batch.proofs.Records.{AllStored, stored-append}
-use Rattle.batch.proofs.Sized.{Present, Counted, Sized, SizedItem, hidden-sized-item}
+use Rattle.batch.specs.Suited.{there, Unbare, Full, FullIn, Present, Counted, Sized, SizedItem}
+use Rattle.batch.proofs.Sized.{hidden-sized-item}
 use Rattle.batch.proofs.Columns.{branch-slots, length-columns}
 use Rattle.batch.proofs.Slots.{valid-is, SlotIs, slot-is}
 use Rattle.batch.proofs.Back.{all-taken, few-items, stands, stands-in}
 use Rattle.batch.proofs.Layouts.{number-of}
-
-abbrev there : (c : Node) → Value c → Bool
-there (branch f b cs) o = isSome o
-there (leaf f k) o = isSome o
 
 not-not : (b : Bool) → not (not b) ≡ true → b ≡ true
 not-not true e = refl
@@ -47,24 +44,11 @@ all-by P w test h [] e = tt
 all-by P w test h (x ∷ xs) e = let both = and-parts (test x) (all test xs) e in (h x (both .0), all-by P w test h xs (both .1))
 
 module _ (st : Setup) where
-  abbrev Unbare : (cs : Fields) → Item cs → Type 0
-  Unbare Fields.none i = Unit {0}
-  Unbare (c ⊕ cs) i = (mayBeNull st c ≡ false → there c (i .0) ≡ true) × Unbare cs (i .1)
-
-  abbrev mutual
-    pub Full : (c : Node) → Value c → Type 0
-    Full (branch f b cs) o = Present (λ is. All (Unbare cs) is × All (FullIn cs) is) o
-    Full (leaf f k) o = Unit {0}
-
-    FullIn : (cs : Fields) → Item cs → Type 0
-    FullIn Fields.none i = Unit {0}
-    FullIn (c ⊕ cs) i = Full c (i .0) × FullIn cs (i .1)
-
-  hidden-full : (c : Node) → Full c (hidden st c)
+  hidden-full : (c : Node) → Full st c (hidden st c)
   hidden-full (branch f b cs) = tt
   hidden-full (leaf f k) = tt
 
-  hidden-full-item : (cs : Fields) → FullIn cs (hiddenItem st cs)
+  hidden-full-item : (cs : Fields) → FullIn st cs (hiddenItem st cs)
   hidden-full-item Fields.none = tt
   hidden-full-item (c ⊕ cs) = (hidden-full c, hidden-full-item cs)
 
@@ -72,7 +56,7 @@ module _ (st : Setup) where
     one : (c : Node) (b : Bool) (m : Got (Value c)) (v : Value c) → b ≡ false → m ≡ got v → (b || not (isNull c m)) ≡ true → there c v ≡ true
     one c b m v e f h = not-null c v (rw (e, f) at h)
 
-    unbare : (cs : Fields) (force : Bool) (ps : List ℕ) → (fitItem st t cs force ps && filled st t cs force ps) ≡ true → Unbare cs (worthItem st t cs force ps)
+    unbare : (cs : Fields) (force : Bool) (ps : List ℕ) → (fitItem st t cs force ps && filled st t cs force ps) ≡ true → Unbare st cs (worthItem st t cs force ps)
     unbare Fields.none force ps e = tt
     unbare (c ⊕ cs) force ps e =
         let F = force || fieldOf c .nullable in
@@ -84,22 +68,22 @@ module _ (st : Setup) where
         )
 
     mutual
-      pub full-value : (c : Node) (force : Bool) (p : ℕ) → fits st t c force p ≡ true → Full c (worth st t c force p)
+      pub full-value : (c : Node) (force : Bool) (p : ℕ) → fits st t c force p ≡ true → Full st c (worth st t c force p)
       full-value (branch f b cs) force p e = go (worthItem st t cs (below b force)) (unbare cs (below b force)) (full-item cs (below b force)) (rowAt (st .settings) t f b cs force p) e
         where
-          go : (w : List ℕ → Item cs) → ((ps : List ℕ) → (fitItem st t cs (below b force) ps && filled st t cs (below b force) ps) ≡ true → Unbare cs (w ps))
-              → ((ps : List ℕ) → fitItem st t cs (below b force) ps ≡ true → FullIn cs (w ps)) → (row : Got (Option (List (List ℕ))))
+          go : (w : List ℕ → Item cs) → ((ps : List ℕ) → (fitItem st t cs (below b force) ps && filled st t cs (below b force) ps) ≡ true → Unbare st cs (w ps))
+              → ((ps : List ℕ) → fitItem st t cs (below b force) ps ≡ true → FullIn st cs (w ps)) → (row : Got (Option (List (List ℕ))))
               → (isGot row && (all (fitItem st t cs (below b force)) (taken b (zeros cs) (accepted row)) && all (filled st t cs (below b force)) (orElse [] (accepted row)))) ≡ true
-              → Present (λ is. All (Unbare cs) is × All (FullIn cs) is) (via (map w) (accepted row))
+              → Present (λ is. All (Unbare st cs) is × All (FullIn st cs) is) (via (map w) (accepted row))
           go w u f (refuse r) e = tt
           go w u f (got none) e = tt
           go w u f (got (some is)) e = (
-            all-by (Unbare cs) w (λ ps. fitItem st t cs (below b force) ps && filled st t cs (below b force) ps) u is (all-both (fitItem st t cs (below b force)) (filled st t cs (below b force)) is ∙ e),
-            all-by (FullIn cs) w (fitItem st t cs (below b force)) f is (and-parts (all (fitItem st t cs (below b force)) is) (all (filled st t cs (below b force)) is) e .0),
+            all-by (Unbare st cs) w (λ ps. fitItem st t cs (below b force) ps && filled st t cs (below b force) ps) u is (all-both (fitItem st t cs (below b force)) (filled st t cs (below b force)) is ∙ e),
+            all-by (FullIn st cs) w (fitItem st t cs (below b force)) f is (and-parts (all (fitItem st t cs (below b force)) is) (all (filled st t cs (below b force)) is) e .0),
           )
       full-value (leaf f k) force p e = tt
 
-      full-item : (cs : Fields) (force : Bool) (ps : List ℕ) → fitItem st t cs force ps ≡ true → FullIn cs (worthItem st t cs force ps)
+      full-item : (cs : Fields) (force : Bool) (ps : List ℕ) → fitItem st t cs force ps ≡ true → FullIn st cs (worthItem st t cs force ps)
       full-item Fields.none force ps e = tt
       full-item (c ⊕ cs) force ps e =
           let both = and-parts (fits st t c (force || fieldOf c .nullable) (first ps)) (fitItem st t cs force (rest ps)) e in

@@ -23,7 +23,8 @@ use Rattle.batch.specs.Values.{Setup, Value, Item, meaning, taken}
 use Rattle.batch.specs.Format.{isValid, width, offset, Spare, textWidth, Marked, Cuts, Views, BranchLaid, LeafLaid, Laid, LaidIn}
 use Rattle.batch.specs.Batch.{nulls, sizes, column, branchColumn, leafColumn, hidden, hiddenItem, columns, columnsIn, wordIn, columnIn}
 use Rattle.batch.proofs.Records.{AllStored, stored-append}
-use Rattle.batch.proofs.Sized.{Present, Fits, Counted, Sized, SizedItem, hidden-sized-item}
+use Rattle.batch.specs.Suited.{Present, Fits, Counted, Sized, SizedItem}
+use Rattle.batch.proofs.Sized.{hidden-sized-item}
 use Rattle.batch.proofs.Columns.{length-columns}
 use Rattle.batch.proofs.Slots.{Spanned, valid-is, size-at, extent-in, even-part, wide-half, text-half, offset-in, start-in, size-in, span-in, length-items, length-sizes, even-filled, eight-fits, wide-enough, text-enough}
 use Rattle.batch.proofs.Back.{Gives, map-between, all-taken, slots-are, few-items, stands, stands-in}

@@ -1,3 +1,4 @@
+pub mod Cuts
 pub mod Tests
 pub mod Worth
 pub mod Columns
@@ -8,3 +9,6 @@ pub mod Slots
 pub mod Back
 pub mod Layouts
 pub mod Filled
+pub mod Whole
+pub mod Bytewise
+pub mod Spelled

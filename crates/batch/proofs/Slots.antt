@@ -21,9 +21,9 @@ use Rattle.leaf.specs.Meaning.{isBit}
 use Rattle.leaf.specs.declared.layout.Layout.{Layout}
 use Rattle.leaf.specs.declared.layout.Layout.the-variants.{None, Bit, Text, Eight}
 use Rattle.batch.specs.Values.{taken}
-use Rattle.batch.specs.Format.{Column, isSet, isMarked, isValid, width, textWidth, offset, extent, span, leafIn}
+use Rattle.batch.specs.Format.{Column, isSet, isMarked, isValid, width, isWide, textWidth, offset, extent, span, leafIn}
 use Rattle.batch.specs.Batch.{nulls, sizes, column, branchColumn, leafColumn}
-use Rattle.batch.proofs.Sized.{Present, Fits, Counted}
+use Rattle.batch.specs.Suited.{Present, Fits, Counted}
 
 no-nulls : {A : Type 0} (os : List (Option A)) (k : ℕ) (d : Option A) → nulls os ≡ 0 → k < length os → isSome (getD os k d) ≡ true
 no-nulls [] k d e h = absurd (not-suc-le-zero h)
@@ -100,16 +100,10 @@ wide-half true = omega arith
 wide-half false = omega arith
 
 pub text-half : (k : LeafKind) → 2 ^ 31 ≤ 2 ^ (8 * textWidth k - 1)
-text-half (LeafKind.text wide) = wide-half wide
-text-half LeafKind.boolean = omega arith
-text-half LeafKind.null = omega arith
-text-half LeafKind.custom = omega arith
+text-half k = wide-half (isWide k)
 
 pub text-enough : (k : LeafKind) → 2 ^ 31 ≤ 256 ^ textWidth k
-text-enough (LeafKind.text wide) = wide-enough wide
-text-enough LeafKind.boolean = omega arith
-text-enough LeafKind.null = omega arith
-text-enough LeafKind.custom = omega arith
+text-enough k = wide-enough (isWide k)
 
 -- offsets want few items
 abbrev pub Spanned : Branch → ℕ → Type 0

@@ -96,6 +96,10 @@ buffers (c ∷ cs) = pad (c .validity) ++ (pad (c .offsets) ++ (pad (c .bytes) +
 abbrev pub batch : List Column → List ℕ
 batch cs = records (32 * length cs) cs ++ buffers cs
 
+-- the bytes of row values
+abbrev pub bytesOf : (st : Setup) → List (Value (st .root)) → List ℕ
+bytesOf st rows = batch (columns st (st .root) rows)
+
 -- the eight numbers of a node's record, by their places; past the end of the bytes there are zeros
 abbrev pub wordIn : (bytes : List ℕ) (node k : ℕ) → ℕ
 wordIn bytes n k = leAt 4 bytes (32 * n + 4 * k)

@@ -10,8 +10,8 @@ use Rattle.bytes.specs.Lists.{part, joined}
 use Rattle.bytes.specs.Numbers.{number}
 use Rattle.bytes.proofs.Pieces.{joined-append, cut-out, part-in}
 use Rattle.batch.specs.Values.{Setup, Value}
-use Rattle.batch.specs.Batch.{wordIn}
-use Rattle.laws.specs.Shelf.{Held, bytesOf, used, page}
+use Rattle.batch.specs.Batch.{wordIn, bytesOf}
+use Rattle.laws.specs.Shelf.{Held, used, page}
 
 module _ (st : Setup) where
   abbrev pub start : Held st → ℕ → ℕ

@@ -11,7 +11,7 @@ use Rattle.tape.specs.View.{TapeView, isPosition}
 use Rattle.slip.specs.Slips.{slip, Got, refuse, got, then, each}
 use Rattle.batch.specs.Rows.{rowAt}
 use Rattle.batch.specs.Values.{Setup, Value, meaning, isNull, hides, taken, zeros, below, mayBeNull, leafAt, value}
-use Rattle.batch.specs.Batch.{columns, sizeOf, batch, branchColumn, leafColumn}
+use Rattle.batch.specs.Batch.{sizeOf, bytesOf, branchColumn, leafColumn}
 use Rattle.batch.specs.Format.{Column, textWidth}
 
 -- the slots of a row's items in each child, of which those under a null row have nothing to say
@@ -67,16 +67,13 @@ abbrev pub Held : Setup → Type 0
 Held st = List (List (Value (st .root)))
 
 module _ (st : Setup) where
-  -- the bytes of a batch, and of all
-  abbrev pub bytesOf : List (Value (st .root)) → List ℕ
-  bytesOf rows = batch (columns st (st .root) rows)
-
+  -- the bytes of all batches
   abbrev pub used : Held st → ℕ
-  used held = length (joined (map bytesOf held))
+  used held = length (joined (map (bytesOf st) held))
 
   -- every byte of the page: the batches end to end, and zeros
   abbrev pub page : Held st → List ℕ
-  page held = joined (map bytesOf held) ++ replicate (st .size - used held) 0
+  page held = joined (map (bytesOf st) held) ++ replicate (st .size - used held) 0
 
   -- too many positions, too long a work list, a 65th batch, or no space for the records
   abbrev pub isFull : Held st → (positions lent : ℕ) → Bool
