@@ -1,7 +1,7 @@
 -- What a walk that is not refused ends with is where its columns end, all of them within the page and none with too many slots.
-use mathlib.Core.Path.{_≡_, refl, sym, ap, ap₂, _∙_}
+use mathlib.Core.Path.{_≡_, refl}
 use mathlib.Core.Bool.{Bool, true, false, cond, _||_}
-use mathlib.Core.List.{List, [], _∷_, _++_, map, map-map}
+use mathlib.Core.List.{List, [], _∷_, _++_, map}
 use mathlib.Core.Option.{Option, none}
 use Prim.Native.Nat.{ℕ, suc, _+_, _*_, _^_, _<_, _≤_}
 use native.Mathlib.Nat.{suc-mul}
@@ -10,18 +10,18 @@ use lib.Dec.{ltb}
 use lib.ListN.{length, length-map}
 use Rattle.std.proofs.shelf.Tests.{ltb-false}
 use Rattle.std.proofs.shelf.Elements.{all-append}
-use Rattle.bytes.specs.Lists.{joined, via, rest, first}
+use Rattle.bytes.specs.Lists.{joined, rest, first}
 use Rattle.schema.specs.Tree.{Node, Fields, branch, leaf, _⊕_, fieldOf, many}
 use Rattle.tape.specs.View.{TapeView}
 use Rattle.batch.specs.Values.{NullFirst, Setup, meaning, taken, zeros, below, leafAt}
 use Rattle.slip.specs.Slips.{Slip, Got, refuse, got, slip, then, each, accepted}
 use Rattle.batch.specs.Rows.{rowAt}
 use Rattle.batch.proofs.Worth.{worth, worthItem}
-use Rattle.batch.specs.Batch.{nulls, branchColumn, leafColumn, hiddenItem, columns, columnsIn, sizeOf}
+use Rattle.batch.specs.Batch.{nulls, branchColumn, leafColumn, columns, columnsIn, sizeOf}
 use Rattle.batch.specs.Format.{Column, textWidth}
 use Rattle.laws.specs.Shelf.{slotsOf, room, bare, walk, walkIn}
-use Rattle.batch.proofs.Columns.{branchColumn-via, taken-via, branch-slots, leaf-slots}
-use Rattle.batch.proofs.Hidden.{item-zero}
+use Rattle.batch.proofs.Columns.{branch-slots, leaf-slots}
+use Rattle.batch.proofs.Hidden.{branch-columns, item-columns}
 use Rattle.batch.proofs.Records.{Few, total, total-append}
 
 -- what holds of an answer, if it is no refusal
@@ -97,14 +97,9 @@ module _ (st : Setup) (t : TapeView) (null : NullFirst t) where
           let rows = map (λ p. accepted (row p)) ps in
           let items = joined (map (taken b (zeros cs)) rows) in
           let more = many cs * length items in
-          let G = worthItem st t cs (below b force) in
-          let rows-are : map (worth st t (branch f b cs) force) ps ≡ map (via (map G)) rows = sym (map-map (via (map G)) (λ p. accepted (row p)) ps) in
-          let cols-are : columns st (branch f b cs) (map (worth st t (branch f b cs) force) ps) ≡ branchColumn b rows ∷ columnsIn st cs (map G items) =
-          ap (columns st (branch f b cs)) rows-are
-          ∙ ap₂ {C = List Column} (λ x y. x ∷ columnsIn st cs y) (branchColumn-via G b rows) (taken-via G b (zeros cs) (hiddenItem st cs) (item-zero st t null cs (below b force)) rows) in
           let slots-are = branch-slots b rows in
           let long = length-map ps (λ p. accepted (row p)) in
-          rw cols-are
+          rw (branch-columns st t null f b cs force ps)
           (holds-each row ps _ (holds-then (room-granted free lent (f .number) top work (branchColumn b rows) more) (λ next g.
           holds-then (walkedIn cs (below b force) items next (work + more) (g .within)) (λ end w.
           holds-skip (bare st t cs (below b force) (joined (map (slotsOf b) rows))) (holds
@@ -123,14 +118,11 @@ module _ (st : Setup) (t : TapeView) (null : NullFirst t) where
       walkedIn (c ⊕ cs) force items top work fit =
           let V = worth st t c (force || fieldOf c .nullable) in
           let W = worthItem st t cs force in
-          let G = worthItem st t (c ⊕ cs) force in
-          let heads : map (λ i. i .0) (map G items) ≡ map V (map first items) = map-map (λ i. i .0) G items ∙ sym (map-map V first items) in
-          let tails : map (λ i. i .1) (map G items) ≡ map W (map rest items) = map-map (λ i. i .1) G items ∙ sym (map-map W rest items) in
           let xs = columns st c (map V (map first items)) in
           let ys = columnsIn st cs (map W (map rest items)) in
           let few′ : suc (many cs) * length items ≡ many cs * length items + length items = suc-mul (many cs) (length items) in
           let n : length (map rest items) ≡ length items = length-map items rest in
-          rw (heads, tails)
+          rw (item-columns st t null c cs force items)
           (holds-then (walked c (force || fieldOf c .nullable) (map first items) top work) (λ next v.
           holds-so (walkedIn cs force (map rest items) next work (v .within))
           (λ end w. append-walked xs ys (λ s. (s .0, omega (arith, length-map items first, s .1))) (λ s. (s .0, rw n (omega (arith, s .1)))) v w)))

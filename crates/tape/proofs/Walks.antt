@@ -285,3 +285,9 @@ pub all-at : {A : Type 0} (f : A → Bool) (xs : List A) (k : ℕ) (d : A) → a
 all-at f [] k d h l = absurd (omega arith)
 all-at f (x ∷ xs) zero d h l = and-parts (f x) (all f xs) h .0
 all-at f (x ∷ xs) (suc k) d h l = all-at f xs k d (and-parts (f x) (all f xs) h .1) (omega arith)
+
+-- pairs are two entries each
+pub turns-even : (t : TapeView) (ps : List ℕ) → InTurn t ps → length ps % 2 ≡ 0
+turns-even t [] h = refl
+turns-even t (n ∷ []) h = absurd h
+turns-even t (n ∷ (v ∷ ps)) h = omega (arith, turns-even t ps (h .1))
