@@ -9,10 +9,11 @@ use lib.ListN.{length, getD, take, drop, replicate}
 use Rattle.std.specs.shelf.Lists.{All}
 use Rattle.bytes.specs.Lists.{part, between, sum}
 use Rattle.schema.specs.Tree.{fieldOf, nodes, WellFormed}
+use Rattle.tape.specs.Opens.{Untorn}
 use Rattle.tape.specs.View.{TapeView}
 use Rattle.batch.specs.Values.{NullFirst, Setup, Value, value}
 use Rattle.slip.specs.Slips.{Got, refuse, got, slip, then, notThere, Refused, numberOf}
-use Rattle.batch.specs.Format.{valueIn, Filled}
+use Rattle.batch.specs.Format.{valueIn, Filled, Spelled}
 use Rattle.batch.specs.Laws.{LaidOut}
 use Rattle.batch.specs.Batch.{bytesOf, recordIn, columnIn, tookIn}
 use Rattle.laws.specs.Shelf.{Held, page, rowsOf}
@@ -51,9 +52,9 @@ Idle (Cell i n slot) (got r) = Unit {0}
 Idle Release (got r) = ⊥
 Idle Count (got r) = Unit {0}
 
--- every tape begins with Null
+-- every tape was opened
 abbrev pub FromOpened : Call → Type 0
-FromOpened (Shelve t ps lent) = NullFirst t
+FromOpened (Shelve t ps lent) = Untorn t
 FromOpened Torn = Unit {0}
 FromOpened (Cell i n slot) = Unit {0}
 FromOpened Release = Unit {0}
@@ -163,6 +164,7 @@ module _ (st : Setup) where
       pub means : (k : ℕ) → k < rows past i → row past i k ≡ got (valueIn st (columnIn (batchOn (now .page) i)) (st .root) k)
       pub lies : LaidOut st (batchOn (now .page) i)
       pub filled : Filled st (columnIn (batchOn (now .page) i)) (st .root)
+      pub spelled : Spelled st (columnIn (batchOn (now .page) i)) (st .root)
       -- ours: a batch begins at a multiple of 8
       pub aligned : startOn (now .page) i % 8 ≡ 0
 
