@@ -1,3 +1,4 @@
+pub mod Cuts
 pub mod Tests
 pub mod Worth
 pub mod Columns
@@ -9,3 +10,5 @@ pub mod Back
 pub mod Layouts
 pub mod Filled
 pub mod Whole
+pub mod Bytewise
+pub mod Spelled

@@ -22,7 +22,11 @@ use Rattle.batch.specs.Values.{Setup, Item, meaning, kept, leafAt, below}
 use Rattle.batch.proofs.Worth.{worth, worthItem}
 use Rattle.batch.specs.Batch.{hidden, hiddenItem}
 
-shown-of : (P : List ℕ → Type 0) (a : Answer) → Valued P a → Present P (shown a)
+pub all-mapped : {A B : Type 0} (P : B → Type 0) (g : A → B) → ((x : A) → P (g x)) → (xs : List A) → All P (map g xs)
+all-mapped P g h [] = tt
+all-mapped P g h (x ∷ xs) = (h x, all-mapped P g h xs)
+
+pub shown-of : (P : List ℕ → Type 0) (a : Answer) → Valued P a → Present P (shown a)
 shown-of P Answer.nothing p = tt
 shown-of P Answer.conflict p = tt
 shown-of P Answer.misfit p = tt
@@ -78,10 +82,6 @@ module _ (st : Setup) where
     counted-map g (list view wide) is h = tt
     counted-map g (fixed n) is h = length-map is g ∙ h
     counted-map g Branch.map is h = tt
-
-    pub all-mapped : {A B : Type 0} (P : B → Type 0) (g : A → B) → ((x : A) → P (g x)) → (xs : List A) → All P (map g xs)
-    all-mapped P g h [] = tt
-    all-mapped P g h (x ∷ xs) = (h x, all-mapped P g h xs)
 
     mutual
       pub sized-value : (c : Node) (force : Bool) (p : ℕ) → Sized st c (worth st t c force p)

@@ -26,6 +26,10 @@ pub record Cell : Type 0 where
 abbrev pub cellOf : ℕ → ℕ → ℕ → Cell
 cellOf kind first second = record { kind = kind; first = first; second = second }
 
+-- the three numbers of a cell
+abbrev pub triple : Cell → ℕ × ℕ × ℕ
+triple c = (c .kind, c .first, c .second)
+
 abbrev pub children : ℕ × ℕ → Cell
 children at = cellOf 3 (at .0) (at .1)
 

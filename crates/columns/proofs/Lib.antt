@@ -1,0 +1,5 @@
+pub mod Writes
+pub mod Places
+pub mod Records
+pub mod Fronts
+pub mod Begins

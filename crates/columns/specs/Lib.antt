@@ -1,2 +1,4 @@
 pub mod Areas
 pub mod Entering
+pub mod Plans
+pub mod Spans

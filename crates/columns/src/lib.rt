@@ -1,3 +1,5 @@
 // Columns, written into the free part of a page.
+pub mod offset;
 pub mod plan;
 pub mod shape;
+pub mod spans;

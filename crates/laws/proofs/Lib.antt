@@ -1,6 +1,8 @@
 pub mod Told
 pub mod Fits
 pub mod Walks
+pub mod Accepted
+pub mod Space
 pub mod Pages
 pub mod Runs
 pub mod Past

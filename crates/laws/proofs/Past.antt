@@ -16,7 +16,7 @@ use Rattle.slip.specs.Slips.{Got, refuse, got, then, notThere, slip}
 use Rattle.batch.specs.Values.{Setup, Value, value}
 use Rattle.batch.specs.Batch.{hidden, bytesOf}
 use Rattle.laws.specs.Shelf.{Held, badPosition, isFull, walk, used, page, shelve, rowsOf}
-use Rattle.laws.specs.Calls.{Call, Shelve, Cell, Release, Count, Reply, answer, after, run}
+use Rattle.laws.specs.Calls.{Call, Shelve, Torn, Cell, Release, Count, Reply, answer, after, run}
 use Rattle.laws.specs.Laws.{takes}
 use Rattle.laws.specs.History.{Past, later, Idle, FromOpened, history, batchOn, startOn, from, rows, row, SameRows, AlwaysKept, AlwaysInFormat}
 use Rattle.batch.proofs.Worth.{worths, each-parts}
@@ -25,7 +25,10 @@ use Rattle.laws.proofs.Walks.{Holds, stopped, holds, holds-skip}
 use Rattle.laws.proofs.Fits.{shelve-told, rows-are, refused-by-test, refused-alone}
 use Rattle.laws.proofs.Pages.{rowsIn}
 use Rattle.batch.proofs.Whole.{map-take, means-at}
-use Rattle.laws.proofs.Runs.{Sound, held-at, format-is, filled-all, aligned-is, sound-after, start-is, batch-is, cell-is, read-is, end-is, same-is, is-same, end-of-all, behind, page-long}
+use Rattle.std.proofs.shelf.Tests.{both-ways}
+use Rattle.batch.proofs.Tests.{all-false}
+use Rattle.laws.proofs.Space.{shelve-spaced}
+use Rattle.laws.proofs.Runs.{Sound, held-at, format-is, filled-all, spelled-all, aligned-is, sound-after, start-is, batch-is, cell-is, read-is, end-is, same-is, is-same, end-of-all, behind, page-long}
 
 same-list : {A : Type 0} (d : A) (xs ys : List A) → length xs ≡ length ys → ((k : ℕ) → k < length xs → getD xs k d ≡ getD ys k d) → xs ≡ ys
 same-list d [] [] e h = refl
@@ -57,6 +60,7 @@ module _ (st : Setup) where
       go (got n) told =
           let is = rows-are st held t ps (told-got told) in
           rw is (map-append rowsFrom past ((t, ps) ∷ []) ∙ ap₂ (λ a b. a ++ (b ∷ [])) e is ∙ sym (map-append got held (worths st t ps ∷ [])))
+  tells-after past held Torn e = e
   tells-after past held (Cell i n slot) e = go (answer st held (Cell i n slot))
     where
       go : (m : Got Reply) → Tells (later past (Cell i n slot) m) held
@@ -99,6 +103,7 @@ module _ (st : Setup) where
       go : (m : Got (List (Value (st .root)))) → getD (elim m [ refuse r ↦ held | got own ↦ held ++ (own ∷ []) ]) i [] ≡ getD held i []
       go (refuse r) = refl
       go (got own) = getD-append-left held (own ∷ []) [] i h
+  stays-held held Torn i h l = refl
   stays-held held (Cell j n slot) i h l = refl
   stays-held held Release i h l = getD-take (length held - 1) held i [] (omega (arith, length-take (length held - 1) held))
   stays-held held Count i h l = refl
@@ -110,6 +115,7 @@ module _ (st : Setup) where
           → page st (elim (then m (λ _. rowsOf st t ps)) [ refuse r ↦ held | got own ↦ held ++ (own ∷ []) ]) ≡ page st held
       go (refuse r) h = refl
       go (got n) h = absurd h
+  idle-is held Torn = λ h. refl
   idle-is held (Cell i n slot) = λ h. refl
   idle-is held Release = go (eqb (length held) 0) refl
     where
@@ -173,6 +179,7 @@ always-in-format st well small done left null i h =
       means = λ j g. rw is (row-is st past held told i j l g ∙ ap got (sym (means-at st well mine (held-at st well small held sound i l) j (hidden st (st .root)) (omega (arith, rows-are)))));
       lies = rw is (good .lies);
       filled = rw is (filled-all st well small held sound i l);
+      spelled = rw is (spelled-all st well small held sound i l);
       aligned = rw (start-is st well small held sound i (omega arith)) (aligned-is st well small held sound i (omega arith));
     }
 
@@ -198,7 +205,15 @@ always-kept st well small done left null =
       refused-alone = λ t ps lent space.
           refused-alone (takes st t) (λ qs. answer st held (Shelve t qs lent)) (λ qs. told-as Reply.batch (shelve-told st held t qs lent)) ps (space .whole) (space .alone);
       refused-by-rules = λ t ps lent space. refused-by-test (takes st t) (answer st held (Shelve t ps lent)) ps (told-as Reply.batch (shelve-told st held t ps lent)) space;
+      shelves = λ t ps lent own null r.
+          let e = all-taken t ps (r .taken) in
+          let is : own ≡ worths st t ps = rows-unique own (worths st t ps) (r .are) (rows-are st held t ps e) in
+          let start : startOn st (page st held) (length past) ≡ used st held = ap (startOn st (page st held)) n ∙ end-of-all st well small held sound in
+          ap (λ m. then m (λ k. got (Reply.batch k)))
+          (shelve-spaced st held t null ps lent e (r .few) (r .short) (rw n at (r .another)) (rw (← is, ← start) (r .page)) (r .work))
+          ∙ ap (λ k. got (Reply.batch k)) (sym n);
       shelved = λ t ps lent r e. batch-number held (shelve st held t ps lent) (numbered st held t ps lent) r e ∙ ap Reply.batch (sym n);
+      torn = refl;
       released = rw n (release-is (length held - 1) (eqb (length held) 0));
       counted = ap₂ (λ a b. got (Reply.counts (a, st .size - b))) (sym n) (sym (ap (startOn st (page st held)) n ∙ end-of-all st well small held sound));
       cells = λ i k slot. rw n (ap (λ m. then m (λ c. got (Reply.cell c))) (cell-is st well small held sound i k slot));
@@ -211,6 +226,16 @@ always-kept st well small done left null =
       free = rw (ap (startOn st (page st held)) n ∙ end-of-all st well small held sound) (behind st well small held sound);
     }
   where
+    all-taken : (t : TapeView) (ps : List ℕ) → ((i : ℕ) → i < length ps → takes st t (getD ps i 0) ≡ true) → all (takes st t) ps ≡ true
+    all-taken t ps h = go (all (takes st t) ps) refl
+      where
+        go : (b : Bool) → all (takes st t) ps ≡ b → b ≡ true
+        go true e = refl
+        go false e = let r = all-false (takes st t) ps e in absurd (both-ways (takes st t (getD ps (r .0) 0)) (r .2) (h (r .0) (r .1)))
+
+    rows-unique : (xs ys : List (Value (st .root))) {m : Got (List (Value (st .root)))} → m ≡ got xs → m ≡ got ys → xs ≡ ys
+    rows-unique xs ys p q = cc
+
     batch-number : (held : Held st) (m : Got ℕ) → Holds (λ n. n ≡ length held) m → (r : Reply) → then m (λ n. got (Reply.batch n)) ≡ got r → r ≡ Reply.batch (length held)
     batch-number held (refuse s) h r e = absurd (let z : _≡_ {A = ℕ} 0 1 = cc in omega arith)
     batch-number held (got n) (holds h) r e = let z : Reply.batch n ≡ r = cc in sym z ∙ ap Reply.batch h

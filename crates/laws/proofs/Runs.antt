@@ -15,22 +15,23 @@ use Rattle.schema.specs.Tree.{fieldOf, nodes, WellFormed}
 use Rattle.tape.specs.View.{TapeView, isPosition}
 use Rattle.batch.specs.Values.{NullFirst, Setup, Value, fits}
 use Rattle.slip.specs.Slips.{Got, refuse, got, slip, then, notThere}
-use Rattle.batch.specs.Format.{Filled}
+use Rattle.batch.specs.Format.{Filled, Spelled}
 use Rattle.batch.specs.Batch.{columns, wordIn, columnIn, bytesOf}
 use Rattle.laws.specs.Shelf.{Held, badPosition, walk, used, page, shelve, rowsOf}
 use Rattle.batch.specs.Cells
 use Rattle.batch.specs.Cells.{batchCell}
-use Rattle.laws.specs.Calls.{cellAt, Call, Shelve, Cell, Release, Count, answer, after, run}
+use Rattle.laws.specs.Calls.{cellAt, Call, Shelve, Torn, Cell, Release, Count, answer, after, run}
 use Rattle.laws.specs.Laws.{takes}
 use Rattle.laws.specs.History.{FromOpened, cellFrom, seen, extentAt, startOn, batchOn, cellOn, readBack}
 use Rattle.batch.proofs.Worth.{worth, worths}
 use Rattle.laws.proofs.Told.{Told, told-got}
 use Rattle.batch.proofs.Records.{length-batch}
 use Rattle.batch.proofs.Sized.{sized-value, all-mapped}
-use Rattle.laws.proofs.Walks.{Holds, stopped, holds, holds-then, holds-skip, Walked, walked}
+use Rattle.laws.proofs.Walks.{Holds, stopped, holds, holds-then, holds-skip, Small, Walked, walked}
 use Rattle.batch.proofs.Columns.{length-columns}
 use Rattle.batch.specs.Laws.{Holdable, InFormat}
-use Rattle.batch.specs.Suited.{Sized, Full}
+use Rattle.batch.specs.Suited.{Sized, Full, Worded}
+use Rattle.batch.proofs.Spelled.{worded, batches-spelled}
 use Rattle.batch.proofs.Whole.{extent-is, both, count-is, cell-past, same-bytes, batches-in-format, batches-filled, whole-words}
 use Rattle.batch.proofs.Filled.{all-by, full-value}
 use Rattle.laws.proofs.Fits.{shelve-told, rows-are}
@@ -42,6 +43,7 @@ module _ (st : Setup) where
     pub sized : All (Sized st (st .root)) rows
     pub few : All (λ c. c .slots < 2 ^ 31) (columns st (st .root) rows)
     pub full : All (Full st (st .root)) rows
+    pub worded : All (Worded (st .root)) rows
     pub within : length (bytesOf st rows) ≤ st .size
 
   record Added (held : Held st) (rows : List (Value (st .root))) : Type 0 where
@@ -49,15 +51,15 @@ module _ (st : Setup) where
     few : All (λ c. c .slots < 2 ^ 31) (columns st (st .root) rows)
     fits : used st held + length (bytesOf st rows) ≤ st .size
 
-  added-from : (held : Held st) (t : TapeView) (ps : List ℕ) (end : ℕ) → used st held ≤ st .size
-      → Walked (st .size - used st held) (32 * length (nodes (st .root))) (columns st (st .root) (worths st t ps)) end → Added held (worths st t ps)
-  added-from held t ps end inside w =
+  added-from : (held : Held st) (t : TapeView) (ps : List ℕ) (lent end : ℕ) → used st held ≤ st .size
+      → Small lent (length ps) → Walked (Small lent (length ps)) (st .size - used st held) (32 * length (nodes (st .root))) (columns st (st .root) (worths st t ps)) end → Added held (worths st t ps)
+  added-from held t ps lent end inside small w =
       let force = fieldOf (st .root) .nullable in
       let long : length (bytesOf st (worths st t ps)) ≡ end =
       omega (arith, length-batch (columns st (st .root) (worths st t ps)), w .is, length-columns st (st .root) (worths st t ps)) in
       record {
-        sized = all-mapped st t (Sized st (st .root)) (worth st t (st .root) force) (sized-value st t (st .root) force) ps;
-        few = all-weaker (λ c. (c .nulls ≤ c .slots) × (c .slots < 2 ^ 31)) (λ c. c .slots < 2 ^ 31) (λ c h. h .1) (columns st (st .root) (worths st t ps)) (w .few);
+        sized = all-mapped (Sized st (st .root)) (worth st t (st .root) force) (sized-value st t (st .root) force) ps;
+        few = all-weaker (λ c. (c .nulls ≤ c .slots) × (c .slots < 2 ^ 31)) (λ c. c .slots < 2 ^ 31) (λ c h. h .1) (columns st (st .root) (worths st t ps)) (w .few small);
         fits = omega (arith, long, w .within);
       }
 
@@ -78,8 +80,8 @@ module _ (st : Setup) where
       go false true c p q = stopped
       go false false true p q = stopped
       go false false false p q =
-          holds-then (walked st t null free lent (omega (arith, ltb-false (2 ^ 24) lent q)) (st .root) (fieldOf (st .root) .nullable) ps top 0 (omega (arith, ltb-false 65535 (length ps) p)))
-          (λ end w. holds (added-from held t ps end inside w))
+          holds-then (walked st t null free lent (st .root) (fieldOf (st .root) .nullable) ps top 0)
+          (λ end w. holds (added-from held t ps lent end inside (omega (arith, ltb-false (2 ^ 24) lent q), omega (arith, ltb-false 65535 (length ps) p)) w))
 
   -- what holds of a shelf after any calls
   pub record Sound (held : Held st) : Type 0 where
@@ -93,14 +95,15 @@ module _ (st : Setup) where
       (λ p e. full-value st t (st .root) force p (and-parts (isPosition t p) (fits st t (st .root) force p) e .1)) ps e
 
   pub sound-after : (held : Held st) (c : Call) → FromOpened c → Sound held → Sound (after st held c)
-  sound-after held (Shelve t ps lent) null s = go (shelve st held t ps lent) (shelve-told st held t ps lent) (added held t ps lent null (s .inside))
+  sound-after held (Shelve t ps lent) null s = go (shelve st held t ps lent) (shelve-told st held t ps lent) (added held t ps lent (null .first) (s .inside))
     where
       go : (m : Got ℕ) → Told (all (takes st t) ps) m → Holds (λ n. Added held (worths st t ps)) m
           → Sound (elim (then m (λ _. rowsOf st t ps)) [ refuse r ↦ held | got rows ↦ held ++ (rows ∷ []) ])
       go (refuse r) told h = s
       go (got n) told (holds a) =
           rw (rows-are st held t ps (told-got told))
-          (record { kept = all-append Kept held (worths st t ps ∷ []) (s .kept) (record { sized = a .sized; few = a .few; full = full-rows t ps (told-got told); within = omega (arith, a .fits) }, tt); inside = omega (arith, used-push st held (worths st t ps), a .fits) })
+          (record { kept = all-append Kept held (worths st t ps ∷ []) (s .kept) (record { sized = a .sized; few = a .few; full = full-rows t ps (told-got told); worded = all-mapped (Worded (st .root)) (worth st t (st .root) (fieldOf (st .root) .nullable)) (worded st t null (st .root) (fieldOf (st .root) .nullable)) ps; within = omega (arith, a .fits) }, tt); inside = omega (arith, used-push st held (worths st t ps), a .fits) })
+  sound-after held Torn null s = s
   sound-after held (Cell i n slot) null s = s
   sound-after held Release null s =
       record { kept = all-take Kept (length held - 1) held (s .kept); inside = omega (arith, s .inside, used-take st (length held - 1) held) }
@@ -185,6 +188,9 @@ module _ (st : Setup) where
 
       pub filled-all : (i : ℕ) → i < length held → Filled st (columnIn (bytesOf st (rowsIn st held i))) (st .root)
       filled-all i h = batches-filled st well (rowsIn st held i) (held-at i h) (kept-at i h .full)
+
+      pub spelled-all : (i : ℕ) → i < length held → Spelled st (columnIn (bytesOf st (rowsIn st held i))) (st .root)
+      spelled-all i h = batches-spelled st well (rowsIn st held i) (held-at i h) (kept-at i h .worded)
 
       pub aligned-is : (i : ℕ) → i ≤ length held → start st held i % 8 ≡ 0
       aligned-is zero h = refl

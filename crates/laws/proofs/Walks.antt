@@ -1,7 +1,7 @@
 -- What a walk that is not refused ends with is where its columns end, all of them within the page and none with too many slots.
-use mathlib.Core.Path.{_≡_, refl, sym, ap, ap₂, _∙_}
+use mathlib.Core.Path.{_≡_, refl}
 use mathlib.Core.Bool.{Bool, true, false, cond, _||_}
-use mathlib.Core.List.{List, [], _∷_, _++_, map, map-map}
+use mathlib.Core.List.{List, [], _∷_, _++_, map}
 use mathlib.Core.Option.{Option, none}
 use Prim.Native.Nat.{ℕ, suc, _+_, _*_, _^_, _<_, _≤_}
 use native.Mathlib.Nat.{suc-mul}
@@ -10,24 +10,27 @@ use lib.Dec.{ltb}
 use lib.ListN.{length, length-map}
 use Rattle.std.proofs.shelf.Tests.{ltb-false}
 use Rattle.std.proofs.shelf.Elements.{all-append}
-use Rattle.bytes.specs.Lists.{joined, via, rest, first}
+use Rattle.bytes.specs.Lists.{joined, rest, first}
 use Rattle.schema.specs.Tree.{Node, Fields, branch, leaf, _⊕_, fieldOf, many}
 use Rattle.tape.specs.View.{TapeView}
 use Rattle.batch.specs.Values.{NullFirst, Setup, meaning, taken, zeros, below, leafAt}
 use Rattle.slip.specs.Slips.{Slip, Got, refuse, got, slip, then, each, accepted}
 use Rattle.batch.specs.Rows.{rowAt}
 use Rattle.batch.proofs.Worth.{worth, worthItem}
-use Rattle.batch.specs.Batch.{nulls, branchColumn, leafColumn, hiddenItem, columns, columnsIn, sizeOf}
+use Rattle.batch.specs.Batch.{nulls, branchColumn, leafColumn, columns, columnsIn, sizeOf}
 use Rattle.batch.specs.Format.{Column, textWidth}
 use Rattle.laws.specs.Shelf.{slotsOf, room, bare, walk, walkIn}
-use Rattle.batch.proofs.Columns.{branchColumn-via, taken-via, branch-slots, leaf-slots}
-use Rattle.batch.proofs.Hidden.{item-zero}
+use Rattle.batch.proofs.Columns.{branch-slots, leaf-slots}
+use Rattle.batch.proofs.Hidden.{branch-columns, item-columns}
 use Rattle.batch.proofs.Records.{Few, total, total-append}
 
 -- what holds of an answer, if it is no refusal
 pub data Holds {A : Type 0} (P : A → Type 0) : Got A → Type 0 where
   stopped : {r : Slip} → Holds P (refuse r)
   holds : {x : A} → P x → Holds P (got x)
+
+pub held-got : {A : Type 0} {P : A → Type 0} {x : A} → Holds P (got x) → P x
+held-got (holds h) = h
 
 pub holds-so : {A : Type 0} {P Q : A → Type 0} {m : Got A} → Holds P m → ((x : A) → P x → Q x) → Holds Q m
 holds-so stopped l = stopped
@@ -67,58 +70,59 @@ room-granted free lent number top work c more = go (ltb free (top + sizeOf c)) (
     go false true p q = stopped
     go false false p q = holds (record { is = refl; within = ltb-false free (top + sizeOf c) p; enough = ltb-false lent (work + more) q })
 
-pub record Walked (free top : ℕ) (cs : List Column) (end : ℕ) : Type 0 where
+-- a short work list, and few positions
+abbrev pub Small : (lent positions : ℕ) → Type 0
+Small lent n = (lent < 2 ^ 31) × (n < 2 ^ 31)
+
+-- where columns end, from `top` on, and that a record can hold their numbers, if `small` holds
+pub record Walked (small : Type 0) (free top : ℕ) (cs : List Column) (end : ℕ) : Type 0 where
   pub is : end ≡ top + total cs
   pub within : end ≤ free
-  pub few : Few cs
+  pub few : small → Few cs
 
-append-walked : {free top next end : ℕ} (xs ys : List Column) → Walked free top xs next → Walked free next ys end → Walked free top (xs ++ ys) end
-append-walked xs ys v w =
-    record { is = omega (arith, v .is, w .is, total-append xs ys); within = w .within; few = all-append (λ c. (c .nulls ≤ c .slots) × (c .slots < 2 ^ 31)) xs ys (v .few) (w .few) }
+append-walked : {A B C : Type 0} {free top next end : ℕ} (xs ys : List Column) → (C → A) → (C → B) → Walked A free top xs next → Walked B free next ys end → Walked C free top (xs ++ ys) end
+append-walked xs ys f g v w = record {
+  is = omega (arith, v .is, w .is, total-append xs ys);
+  within = w .within;
+  few = λ s. all-append (λ c. (c .nulls ≤ c .slots) × (c .slots < 2 ^ 31)) xs ys (v .few (f s)) (w .few (g s));
+}
 
 module _ (st : Setup) (t : TapeView) (null : NullFirst t) where
-  module _ (free lent : ℕ) (small : lent < 2 ^ 31) where
+  module _ (free lent : ℕ) where
     mutual
-      pub walked : (c : Node) (force : Bool) (ps : List ℕ) (top work : ℕ) → length ps < 2 ^ 31
-          → Holds (Walked free top (columns st c (map (worth st t c force) ps))) (walk st t free lent c force ps top work)
-      walked (branch f b cs) force ps top work few =
+      pub walked : (c : Node) (force : Bool) (ps : List ℕ) (top work : ℕ)
+          → Holds (Walked (Small lent (length ps)) free top (columns st c (map (worth st t c force) ps))) (walk st t free lent c force ps top work)
+      walked (branch f b cs) force ps top work =
           let row = rowAt (st .settings) t f b cs force in
           let rows = map (λ p. accepted (row p)) ps in
           let items = joined (map (taken b (zeros cs)) rows) in
           let more = many cs * length items in
-          let G = worthItem st t cs (below b force) in
-          let rows-are : map (worth st t (branch f b cs) force) ps ≡ map (via (map G)) rows = sym (map-map (via (map G)) (λ p. accepted (row p)) ps) in
-          let cols-are : columns st (branch f b cs) (map (worth st t (branch f b cs) force) ps) ≡ branchColumn b rows ∷ columnsIn st cs (map G items) =
-          ap (columns st (branch f b cs)) rows-are
-          ∙ ap₂ {C = List Column} (λ x y. x ∷ columnsIn st cs y) (branchColumn-via G b rows) (taken-via G b (zeros cs) (hiddenItem st cs) (item-zero st t null cs (below b force)) rows) in
           let slots-are = branch-slots b rows in
           let long = length-map ps (λ p. accepted (row p)) in
-          rw cols-are
+          rw (branch-columns st t null f b cs force ps)
           (holds-each row ps _ (holds-then (room-granted free lent (f .number) top work (branchColumn b rows) more) (λ next g.
-          holds-then (walkedIn cs (below b force) items next (work + more) (omega (arith, g .enough)) (g .within)) (λ end w.
+          holds-then (walkedIn cs (below b force) items next (work + more) (g .within)) (λ end w.
           holds-skip (bare st t cs (below b force) (joined (map (slotsOf b) rows))) (holds
-          (record { is = omega (arith, w .is, g .is); within = w .within; few = ((omega (arith, slots-are), omega (arith, slots-are)), w .few) }))))))
-      walked (leaf f k) force ps top work few =
+          (record { is = omega (arith, w .is, g .is); within = w .within; few = λ s. ((omega (arith, slots-are), omega (arith, slots-are)), w .few (s .0, omega (arith, g .enough))) }))))))
+      walked (leaf f k) force ps top work =
           let os = map (λ p. accepted (leafAt st t f k p)) ps in
           let col = leafColumn (meaning st k .layout) (textWidth k) os in
           let slots-are = leaf-slots (meaning st k .layout) (textWidth k) os in
           let long = length-map ps (λ p. accepted (leafAt st t f k p)) in
           holds-each (leafAt st t f k) ps _ (holds-so (room-granted free lent (f .number) top work col 0) (λ next g.
-          record { is = omega (arith, g .is); within = g .within; few = ((omega (arith, slots-are), omega (arith, slots-are)), tt) }))
+          record { is = omega (arith, g .is); within = g .within; few = λ s. ((omega (arith, slots-are), omega (arith, slots-are)), tt) }))
 
-      walkedIn : (cs : Fields) (force : Bool) (items : List (List ℕ)) (top work : ℕ) → many cs * length items < 2 ^ 31 → top ≤ free
-          → Holds (Walked free top (columnsIn st cs (map (worthItem st t cs force) items))) (walkIn st t free lent cs force items top work)
-      walkedIn Fields.none force items top work few fit = holds (record { is = omega arith; within = fit; few = tt })
-      walkedIn (c ⊕ cs) force items top work few fit =
+      walkedIn : (cs : Fields) (force : Bool) (items : List (List ℕ)) (top work : ℕ) → top ≤ free
+          → Holds (Walked (Small lent (many cs * length items)) free top (columnsIn st cs (map (worthItem st t cs force) items))) (walkIn st t free lent cs force items top work)
+      walkedIn Fields.none force items top work fit = holds (record { is = omega arith; within = fit; few = λ s. tt })
+      walkedIn (c ⊕ cs) force items top work fit =
           let V = worth st t c (force || fieldOf c .nullable) in
           let W = worthItem st t cs force in
-          let G = worthItem st t (c ⊕ cs) force in
-          let heads : map (λ i. i .0) (map G items) ≡ map V (map first items) = map-map (λ i. i .0) G items ∙ sym (map-map V first items) in
-          let tails : map (λ i. i .1) (map G items) ≡ map W (map rest items) = map-map (λ i. i .1) G items ∙ sym (map-map W rest items) in
           let xs = columns st c (map V (map first items)) in
           let ys = columnsIn st cs (map W (map rest items)) in
           let few′ : suc (many cs) * length items ≡ many cs * length items + length items = suc-mul (many cs) (length items) in
           let n : length (map rest items) ≡ length items = length-map items rest in
-          rw (heads, tails)
-          (holds-then (walked c (force || fieldOf c .nullable) (map first items) top work (omega (arith, length-map items first))) (λ next v.
-          holds-so (walkedIn cs force (map rest items) next work (rw n (omega arith)) (v .within)) (λ end w. append-walked xs ys v w)))
+          rw (item-columns st t null c cs force items)
+          (holds-then (walked c (force || fieldOf c .nullable) (map first items) top work) (λ next v.
+          holds-so (walkedIn cs force (map rest items) next work (v .within))
+          (λ end w. append-walked xs ys (λ s. (s .0, omega (arith, length-map items first, s .1))) (λ s. (s .0, rw n (omega (arith, s .1)))) v w)))

@@ -1,7 +1,7 @@
 -- The laws of every run, by what was asked and answered, and by the bytes of the page.
 use mathlib.Core.Path.{_≡_}
 use mathlib.Core.Logic.{_↔_}
-use mathlib.Core.Bool.{false, cond}
+use mathlib.Core.Bool.{true, false, cond}
 use mathlib.Core.List.{List, [], _∷_, _++_, map}
 use Prim.Native.Nat.{ℕ, zero, suc, _+_, _-_, _*_, _%_, _^_, _<_, _≤_}
 use lib.Dec.{eqb, ltb}
@@ -9,16 +9,18 @@ use lib.ListN.{length, getD, take, drop, replicate}
 use Rattle.std.specs.shelf.Lists.{All}
 use Rattle.bytes.specs.Lists.{part, between, sum}
 use Rattle.schema.specs.Tree.{fieldOf, nodes, WellFormed}
+use Rattle.tape.specs.Opens.{Untorn}
 use Rattle.tape.specs.View.{TapeView}
 use Rattle.batch.specs.Values.{NullFirst, Setup, Value, value}
-use Rattle.slip.specs.Slips.{Got, refuse, got, then, notThere, Refused, numberOf}
-use Rattle.batch.specs.Format.{valueIn, Filled}
+use Rattle.slip.specs.Slips.{Got, refuse, got, slip, then, notThere, Refused, numberOf}
+use Rattle.batch.specs.Format.{valueIn, Filled, Spelled}
 use Rattle.batch.specs.Laws.{LaidOut}
-use Rattle.batch.specs.Batch.{recordIn, columnIn, tookIn}
-use Rattle.laws.specs.Shelf.{Held, page}
+use Rattle.batch.specs.Batch.{bytesOf, recordIn, columnIn, tookIn}
+use Rattle.laws.specs.Shelf.{Held, page, rowsOf}
+use Rattle.laws.specs.Space.{peak}
 use Rattle.batch.specs.Cells
 use Rattle.batch.specs.Cells.{batchCell, read}
-use Rattle.laws.specs.Calls.{Call, Shelve, Cell, Release, Count, Reply, batch, cell, counts, answer, after, run}
+use Rattle.laws.specs.Calls.{Call, Shelve, Torn, Cell, Release, Count, Reply, batch, cell, counts, answer, after, run}
 use Rattle.laws.specs.Laws.{takes}
 
 -- the tape and the positions that each batch held was shelved from
@@ -36,6 +38,7 @@ rows past i = length (from past i .1)
 abbrev pub later : Past → Call → Got Reply → Past
 later past call (refuse r) = past
 later past (Shelve t ps lent) (got r) = past ++ ((t, ps) ∷ [])
+later past Torn (got r) = past
 later past (Cell i n slot) (got r) = past
 later past Release (got r) = take (length past - 1) past
 later past Count (got r) = past
@@ -44,13 +47,15 @@ later past Count (got r) = past
 abbrev pub Idle : Call → Got Reply → Type 0
 Idle call (refuse r) = Unit {0}
 Idle (Shelve t ps lent) (got r) = ⊥
+Idle Torn (got r) = Unit {0}
 Idle (Cell i n slot) (got r) = Unit {0}
 Idle Release (got r) = ⊥
 Idle Count (got r) = Unit {0}
 
--- every tape begins with Null
+-- every tape was opened
 abbrev pub FromOpened : Call → Type 0
-FromOpened (Shelve t ps lent) = NullFirst t
+FromOpened (Shelve t ps lent) = Untorn t
+FromOpened Torn = Unit {0}
 FromOpened (Cell i n slot) = Unit {0}
 FromOpened Release = Unit {0}
 FromOpened Count = Unit {0}
@@ -117,6 +122,17 @@ module _ (st : Setup) where
   readBack now i k = read (λ n slot. cellFrom (now .reply (Cell i n slot))) (now .page) (st .root) k
 
   module _ (now : Seen) (past : Past) where
+    -- space for the rows of some positions, all of which the rules take: within the limits, for the batch's bytes on the page, and for
+    -- the child positions in the work list
+    pub record Roomy (t : TapeView) (ps : List ℕ) (lent : ℕ) (own : List (Value (st .root))) : Type 0 where
+      pub taken : (i : ℕ) → i < length ps → takes st t (getD ps i 0) ≡ true
+      pub are : rowsOf st t ps ≡ got own
+      pub few : length ps ≤ 65535
+      pub short : lent ≤ 2 ^ 24
+      pub another : length past < 64
+      pub page : startOn (now .page) (length past) + length (bytesOf st own) ≤ st .size
+      pub work : peak st t (st .root) (fieldOf (st .root) .nullable) ps ≤ lent
+
     pub record Kept : Type 0 where
       -- two batches have equal bytes exactly where their rows are equal
       pub same-bytes : (i j : ℕ) → i < length past → j < length past → (batchOn (now .page) i ≡ batchOn (now .page) j) ↔ SameRows past i j
@@ -128,8 +144,11 @@ module _ (st : Setup) where
           → Refused (now .reply (Shelve t ps lent)) ↔ ((i : ℕ) × (i < length ps) × Refused (now .reply (Shelve t (getD ps i 0 ∷ []) lent)))
       pub refused-by-rules : (t : TapeView) (ps : List ℕ) (lent : ℕ) → (numberOf (now .reply (Shelve t ps lent)) ≡ 4 → ⊥)
           → Refused (now .reply (Shelve t ps lent)) ↔ ((i : ℕ) × (i < length ps) × (takes st t (getD ps i 0) ≡ false))
+      -- and where there is space, what the rules take is shelved
+      pub shelves : (t : TapeView) (ps : List ℕ) (lent : ℕ) (own : List (Value (st .root))) → NullFirst t → Roomy t ps lent own → now .reply (Shelve t ps lent) ≡ got (batch (length past))
       -- the numbers in the replies, and the cells, by the page alone
       pub shelved : (t : TapeView) (ps : List ℕ) (lent : ℕ) (r : Reply) → now .reply (Shelve t ps lent) ≡ got r → r ≡ batch (length past)
+      pub torn : now .reply Torn ≡ refuse (slip 1 0 0)
       pub released : now .reply Release ≡ cond (eqb (length past) 0) (refuse notThere) (got (batch (length past - 1)))
       pub counted : now .reply Count ≡ got (counts (length past, st .size - startOn (now .page) (length past)))
       pub cells : (i n slot : ℕ) → now .reply (Cell i n slot) ≡ then (cellOn (now .page) (length past) i n slot) (λ c. got (cell c))
@@ -145,6 +164,7 @@ module _ (st : Setup) where
       pub means : (k : ℕ) → k < rows past i → row past i k ≡ got (valueIn st (columnIn (batchOn (now .page) i)) (st .root) k)
       pub lies : LaidOut st (batchOn (now .page) i)
       pub filled : Filled st (columnIn (batchOn (now .page) i)) (st .root)
+      pub spelled : Spelled st (columnIn (batchOn (now .page) i)) (st .root)
       -- ours: a batch begins at a multiple of 8
       pub aligned : startOn (now .page) i % 8 ≡ 0
 

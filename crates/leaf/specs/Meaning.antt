@@ -20,6 +20,7 @@ pub data Answer : Type 0 where
   misfit : Answer
   value : List ℕ → Answer
 
+-- a leaf: its one layout, and its answer to each element
 pub record Meaning : Type 0 where
   pub layout : Layout
   pub answer : Elem → Answer
@@ -31,7 +32,7 @@ shown conflict = Option.none
 shown misfit = Option.none
 shown (value bs) = some bs
 
--- Text, Boolean and Null
+-- Text takes strings
 abbrev pub ofText : Elem → Answer
 ofText object = conflict
 ofText list = conflict
@@ -42,6 +43,7 @@ ofText (i32 z) = conflict
 ofText (bool b) = conflict
 ofText null = nothing
 
+-- Boolean takes true and false, as a byte of 1 or 0
 abbrev pub ofBoolean : Elem → Answer
 ofBoolean object = conflict
 ofBoolean list = conflict
@@ -52,6 +54,7 @@ ofBoolean (i32 z) = conflict
 ofBoolean (bool b) = value (cond b 1 0 ∷ [])
 ofBoolean null = nothing
 
+-- Null takes null alone
 abbrev pub ofNull : Elem → Answer
 ofNull object = conflict
 ofNull list = conflict
@@ -62,6 +65,7 @@ ofNull (i32 z) = conflict
 ofNull (bool b) = conflict
 ofNull null = nothing
 
+-- the three leaves with their layouts
 abbrev pub textLeaf : Meaning
 textLeaf = record { layout = Text; answer = ofText }
 
@@ -78,10 +82,11 @@ forgiven conflict = nothing
 forgiven misfit = misfit
 forgiven (value bs) = value bs
 
+-- the same, as a layer over a leaf
 abbrev pub lenient : Meaning → Meaning
 lenient m = record { layout = m .layout; answer = λ e. forgiven (m .answer e) }
 
--- Coerce writes truth values and numbers as text, where the leaf below keeps text
+-- truth values and numbers as text, and for all else the answer below
 abbrev pub written : Elem → Answer → Answer
 written object a = a
 written list a = a
@@ -92,36 +97,42 @@ written (i32 z) a = value (signed z)
 written (bool b) a = value (cond b (codes "true") (codes "false"))
 written null a = a
 
+-- whether a layout is that of text
 abbrev pub keepsText : Layout → Bool
 keepsText None = false
 keepsText Bit = false
 keepsText Text = true
 keepsText Eight = false
 
+-- Coerce writes truth values and numbers as text, where the leaf below keeps text
 abbrev pub coerced : Layout → Elem → Answer → Answer
 coerced l e a = cond (keepsText l) (written e a) a
 
+-- the same, as a layer over a leaf
 abbrev pub coerce : Meaning → Meaning
 coerce m = record { layout = m .layout; answer = λ e. coerced (m .layout) e (m .answer e) }
 
--- Checked turns a value that does not fit the layout into a misfit
+-- one byte of 0 or 1
 abbrev pub isBit : List ℕ → Bool
 isBit [] = false
 isBit (b ∷ []) = ltb b 2
 isBit (b ∷ (c ∷ bs)) = false
 
+-- whether a value fits a layout
 abbrev pub fitting : Layout → List ℕ → Bool
 fitting None bs = false
 fitting Bit bs = isBit bs
 fitting Text bs = true
 fitting Eight bs = eqb (length bs) 8
 
+-- Checked turns a value that does not fit the layout into a misfit
 abbrev pub tested : Layout → Answer → Answer
 tested l nothing = nothing
 tested l conflict = conflict
 tested l misfit = misfit
 tested l (value bs) = cond (fitting l bs) (value bs) misfit
 
+-- the same, as a layer over a leaf
 abbrev pub checked : Meaning → Meaning
 checked m = record { layout = m .layout; answer = λ e. tested (m .layout) (m .answer e) }
 

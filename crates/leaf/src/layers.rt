@@ -72,7 +72,7 @@ pub impl<L: Leaf> Leaf for Checked<L> as CheckedLeaf {
                     let mut b = [0u8; 1];
                     self.below.write(e, &mut b);
                     if b[0] < 2 {
-                        Reply::Value(1)
+                        Reply::Value(n)
                     } else {
                         Reply::Misfit
                     }
@@ -80,7 +80,7 @@ pub impl<L: Leaf> Leaf for Checked<L> as CheckedLeaf {
                 Layout::Text => Reply::Value(n),
                 Layout::Eight => {
                     if n == 8 {
-                        Reply::Value(8)
+                        Reply::Value(n)
                     } else {
                         Reply::Misfit
                     }

@@ -1,7 +1,6 @@
 -- The names of a struct's fields, by their records.
 use Prim.Native.Nat.{ℕ, zero, suc, _+_, _-_, _<_, _≤_}
 use mathlib.Core.Path.{_≡_, refl, sym, ap, _∙_, subst}
-use mathlib.Core.Bool.{Bool}
 use mathlib.Core.List.{List, [], _∷_, _++_, map, append-assoc}
 use native.Mathlib.Omega.{arith}
 use lib.ListN.{length, getD, set, take, length-take, length-set, length-map}
@@ -9,11 +8,12 @@ use lib.Seq.{getD-take, length-take-le}
 use Rattle.std.proofs.shelf.Lists.{getD-map, getD-append-right, take-more-set, append-nil}
 use Rattle.bytes.specs.Lists.{between}
 use Rattle.bytes.proofs.Pieces.{between-at}
-use Rattle.schema.specs.Tree.{LeafKind, text, boolean, null, custom, Branch, struct, list, fixed, map as mapping, Node, branch, leaf, Fields, fieldOf, childrenOf, many, names}
+use Rattle.schema.specs.Tree.{Node, Fields, fieldOf, childrenOf, many, names}
 use Rattle.schema.specs.Layout.{the, recordCount, letterAt, endAt, startAt, sizeAt, nameAt, countAt}
 use Rattle.schema.specs.Held.{letterOf, countOf, Limited, Held, HeldIn}
 use Rattle.schema.specs.Held.HeldIn.{nothing, more}
 use Rattle.schema.specs.Opens.{Opens}
+use Rattle.schema.proofs.Letters.{by-letter}
 use Rattle.schema.proofs.Nodes.{held-written, held-limited, held-children, held-at, between-more}
 use Rattle.names.specs.declared.scan.Scan.{Scan}
 use Rattle.names.specs.Scans.{Readable, headsFrom, scanNames, ScanReady}
@@ -24,15 +24,7 @@ record Counted (t : Node) : Type 0 where
   pub few : countOf t ≤ 64
 
 counted : (t : Node) → letterOf t ≡ the "S" → Limited t → Counted t
-counted (branch f struct cs) e l = record { fields = refl; few = l }
-counted (branch f (list Bool.true w) cs) e l = absurd (omega arith)
-counted (branch f (list Bool.false w) cs) e l = absurd (omega arith)
-counted (branch f (fixed n) cs) e l = absurd (omega arith)
-counted (branch f mapping cs) e l = absurd (omega arith)
-counted (leaf f (text w)) e l = absurd (omega arith)
-counted (leaf f boolean) e l = absurd (omega arith)
-counted (leaf f LeafKind.null) e l = absurd (omega arith)
-counted (leaf f custom) e l = absurd (omega arith)
+counted t e = subst (λ x. Limited x → Counted x) (sym (by-letter t (the "S") e)) (λ l. record { fields = refl; few = l })
 
 -- the children that are held are those of the records
 record Chained (rs ns : List ℕ) (i k : ℕ) (all : List (List ℕ)) : Type 0 where
@@ -70,17 +62,10 @@ fielded {rs} {ns} {i} {t} h e =
 pub readable-at : {rs ns : List ℕ} {root : Node} → Opens rs ns root → (i : ℕ) → i < recordCount rs → Readable rs ns i
 readable-at o i h = record { within = h; inside = held-written (held-at o i h) .named .inside }
 
-pub length-heads : (rs : List ℕ) (i k : ℕ) → length (headsFrom rs i k) ≡ k
-length-heads rs i zero = refl
-length-heads rs i (suc k) = ap suc (length-heads rs (endAt rs i) k)
-
 -- so many heads are written, and those that are left give the whole
 pub record Heading (rs : List ℕ) (first count : ℕ) (heads : List ℕ) (at place : ℕ) : Type 0 where
   pub long : length heads ≡ 64
   pub whole : take place heads ++ headsFrom rs at (count - place) ≡ headsFrom rs first count
-
-pub heading-none : (rs : List ℕ) (first count : ℕ) {heads : List ℕ} → length heads ≡ 64 → Heading rs first count heads first 0
-heading-none rs first count l = let e : count - 0 ≡ count = omega arith in record { long = l; whole = rw e refl }
 
 -- the next head stands where the last one ended
 pub heading-here : {rs : List ℕ} {first count : ℕ} {heads : List ℕ} {at place : ℕ} → place < count → count ≤ 64 → Heading rs first count heads at place → getD (headsFrom rs first count) place 0 ≡ at

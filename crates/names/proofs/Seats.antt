@@ -1,17 +1,19 @@
 -- Slots, and how one is found.
 use Prim.Native.Nat.{ℕ, zero, suc, _+_, _-_, _%_, _<_, _≤_}
 use mathlib.Core.Path.{_≡_, refl, sym, ap, _∙_, subst}
+use mathlib.Core.Bool.{Bool, true, false, cond}
 use mathlib.Core.Logic.{_⊎_, inl, inr}
 use mathlib.Core.List.{List, [], _∷_}
 use native.Mathlib.Omega.{arith}
 use native.Mathlib.Numerals.{add-one}
 use native.Mathlib.Decide.{decLt}
 use borrow.Author.Count.{below-more}
-use lib.ListN.{length, getD, set, replicate, length-set, length-replicate}
+use lib.Dec.{eqb}
+use lib.ListN.{length, getD, set, replicate, length-set}
 use Rattle.std.proofs.shelf.Lists.{getD-set-same, getD-set-other}
-use Rattle.std.proofs.shelf.Tests.{cases-eq}
+use Rattle.std.proofs.shelf.Tests.{cases-eq, eqb-true, eqb-false}
 use Rattle.names.specs.Hash.{hashOf, SameHash}
-use Rattle.names.specs.Slots.{used, nameOf, Other, Sought, Seated, Keyed}
+use Rattle.names.specs.Slots.{used, kept, nameOf, Other, Sought, Seated, Keyed}
 use Rattle.names.proofs.Lowests.{Before}
 
 pub same-hash : SameHash
@@ -94,7 +96,7 @@ keyed-none all = record {
 }
 
 -- a name that has a slot already
-pub keyed-twin : {all : List (List ℕ)} {slots : List ℕ} {p : ℕ} {n : List ℕ} {r : ℕ} → n ≡ getD all p [] → Keyed all slots p → Sought all slots n r → 0 < getD slots r 0 → Keyed all slots (p + 1)
+keyed-twin : {all : List (List ℕ)} {slots : List ℕ} {p : ℕ} {n : List ℕ} {r : ℕ} → n ≡ getD all p [] → Keyed all slots p → Sought all slots n r → 0 < getD slots r 0 → Keyed all slots (p + 1)
 keyed-twin {all} {slots} {p} {n} {r} e k x l = record {
   long = k .long;
   known = λ s. omega (arith, k .known s);
@@ -124,7 +126,7 @@ put-cases slots r v s h = elim (cases-eq s r) [
   | inr n ↦ inr (getD-set-other slots r s v 0 n)
 ]
 
-pub keyed-put : {all : List (List ℕ)} {slots : List ℕ} {p : ℕ} {n : List ℕ} {r : ℕ} → n ≡ getD all p [] → Keyed all slots p → Sought all slots n r → getD slots r 0 ≡ 0 → r < 128 → Keyed all (set slots r (p + 1)) (p + 1)
+keyed-put : {all : List (List ℕ)} {slots : List ℕ} {p : ℕ} {n : List ℕ} {r : ℕ} → n ≡ getD all p [] → Keyed all slots p → Sought all slots n r → getD slots r 0 ≡ 0 → r < 128 → Keyed all (set slots r (p + 1)) (p + 1)
 keyed-put {all} {slots} {p} {n} {r} e k x z b = record {
   long = length-set slots r (p + 1) ∙ k .long;
   known = λ s. known′ s (put-cases slots r (p + 1) s h);
@@ -148,3 +150,11 @@ keyed-put {all} {slots} {p} {n} {r} e k x z b = record {
     lowest′ : (s : ℕ) → ((s ≡ r) × (getD (set slots r (p + 1)) s 0 ≡ p + 1)) ⊎ (getD (set slots r (p + 1)) s 0 ≡ getD slots s 0) → 0 < getD (set slots r (p + 1)) s 0 → (j : ℕ) → j + 1 < getD (set slots r (p + 1)) s 0 → getD all j [] ≡ nameOf all (getD (set slots r (p + 1)) s 0) → ⊥
     lowest′ s (inl i) l j m q = not-there k x z j (omega arith) (q ∙ ap (nameOf all) (i .1) ∙ own)
     lowest′ s (inr i) l j m q = k .lowest s (omega arith) j (omega arith) (q ∙ ap (nameOf all) i)
+
+-- either way, one more place is known
+pub keyed-more : {all : List (List ℕ)} {slots : List ℕ} {p : ℕ} {n : List ℕ} {r : ℕ} → n ≡ getD all p [] → Keyed all slots p → Sought all slots n r → r < 128 → Keyed all (kept slots r p) (p + 1)
+keyed-more {all} {slots} {p} {n} {r} e k x b = go (eqb (getD slots r 0) 0) refl
+  where
+    go : (t : Bool) → eqb (getD slots r 0) 0 ≡ t → Keyed all (cond t (set slots r (p + 1)) slots) (p + 1)
+    go true h = keyed-put e k x (eqb-true _ _ h) b
+    go false h = keyed-twin e k x (let z = eqb-false _ _ h in omega arith)

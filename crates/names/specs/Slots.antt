@@ -1,9 +1,11 @@
 -- The 128 slots of a table. A slot holds one more than a place, or 0 where it is empty.
 use Prim.Native.Nat.{ℕ, zero, suc, _+_, _-_, _%_, _<_, _≤_}
 use mathlib.Core.Path.{_≡_}
+use mathlib.Core.Bool.{cond}
 use mathlib.Core.Logic.{_⊎_}
 use mathlib.Core.List.{List, [], _∷_}
-use lib.ListN.{length, getD}
+use lib.Dec.{eqb}
+use lib.ListN.{length, getD, set}
 use Rattle.names.specs.Hash.{hashOf}
 
 -- how many slots hold a place
@@ -11,6 +13,10 @@ abbrev pub used : List ℕ → ℕ
 used [] = 0
 used (zero ∷ ss) = used ss
 used (suc v ∷ ss) = suc (used ss)
+
+-- the slots with a place put into slot r, if it was empty
+abbrev pub kept : List ℕ → ℕ → ℕ → List ℕ
+kept slots r place = cond (eqb (getD slots r 0) 0) (set slots r (place + 1)) slots
 
 -- the name that a slot's number stands for
 abbrev pub nameOf : List (List ℕ) → ℕ → List ℕ

@@ -3,11 +3,12 @@ ghost use mathlib.Core.Path.{_≡_};
 ghost use mathlib.Core.List.{[], map};
 ghost use lib.ListN.{length, getD};
 ghost use Prim.Native.Nat.{ℕ, _+_, _<_, _≤_};
+ghost use Rattle.std.specs.Orderings.{Decides};
 ghost use Rattle.bytes.specs.Lists.{between};
 ghost use Rattle.schema.specs.Tree.{Node, childrenOf, names as namesIn};
 ghost use Rattle.schema.specs.Layout.{the, recordCount, letterAt, countAt, startAt, sizeAt, nameAt};
 ghost use Rattle.schema.specs.Opened.{Opened, NodeOf, recordsOf, sizeOf};
-ghost use Rattle.names.specs.Scans.{scanNames, ScanReady, Readable};
+ghost use Rattle.names.specs.Scans.{scanNames, ScanReady};
 use crate::NameIndex;
 use crate::same;
 use schema::Schema;
@@ -32,6 +33,7 @@ impl<'a> Scan<'a> {
         ensures count { λ r. ⌜ r .count ≡ countAt (recordsOf (schema .entry)) node ⌝ }
         ensures names { λ r. ⌜ ((t : Node) → NodeOf (schema .entry) node t → scanNames r ≡ namesIn (childrenOf t)) ⌝ }
     {
+        let (records, names) = schema.bytes();
         let count = schema.count(node);
         let mut heads = [0u16; 64];
         let mut at = node + 1;
@@ -40,8 +42,8 @@ impl<'a> Scan<'a> {
             at = schema.end(at);
         }
         Scan {
-            records: schema.records(),
-            names: schema.names(),
+            records,
+            names,
             heads,
             count,
         }
@@ -76,6 +78,15 @@ impl<'a> Scan<'a> {
     {
         name_in(self.records, self.names, self.heads[place] as usize)
     }
+
+    // Whether a place has exactly these bytes.
+    pub(crate) fn has(&self, place: usize, name: &[u8]) -> bool
+        requires ready { ⌜ ScanReady (now self) ⌝ }
+        requires within { ⌜ place < now self .count ⌝ }
+        ensures { λ r. ⌜ Decides r (getD (scanNames (now (self .entry))) place [] ≡ now (name .entry)) ⌝ }
+    {
+        same(self.name(place), name)
+    }
 }
 
 pub impl NameIndex for Scan<'_> as ScanIndex {
@@ -85,7 +96,7 @@ pub impl NameIndex for Scan<'_> as ScanIndex {
 
     fn find(&self, name: &[u8]) -> Option<usize> {
         for place in 0..self.count {
-            if same(self.name(place), name) {
+            if self.has(place, name) {
                 return Some(place);
             }
         }

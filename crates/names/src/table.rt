@@ -3,11 +3,10 @@ ghost use mathlib.Core.Path.{_≡_};
 ghost use Prim.Native.Nat.{ℕ, _<_, _≤_};
 ghost use lib.ListN.{getD};
 ghost use Rattle.names.specs.Scans.{scanNames, ScanReady};
-ghost use Rattle.names.specs.Slots.{used, Sought};
+ghost use Rattle.names.specs.Slots.{used, kept, Sought};
 ghost use Rattle.names.specs.Indexes.{TableReady};
 use crate::NameIndex;
 use crate::hash::hash;
-use crate::same;
 use crate::scan::Scan;
 
 // A slot has one more than the place of a name, or 0. A name stands in the first slot that was empty from its own slot on.
@@ -29,11 +28,21 @@ fn seek(scan: &Scan<'_>, slots: &[u8; 128], name: &[u8]) -> usize
     for step in 0..128 {
         let slot = (first + step) % 128;
         let held = slots[slot] as usize;
-        if held == 0 || same(scan.name(held - 1), name) {
+        if held == 0 || scan.has(held - 1, name) {
             return slot;
         }
     }
     unreachable()
+}
+
+// Puts a place into an empty slot; a slot that has one keeps it.
+fn keep(slots: &mut [u8; 128], slot: usize, place: usize)
+    requires { ⌜ slot < 128 ⌝ ∗ ⌜ place < 64 ⌝ }
+    ensures { λ _. ⌜ now (slots .exit) ≡ kept (now (slots .entry)) slot place ⌝ }
+{
+    if slots[slot] == 0 {
+        slots[slot] = place as u8 + 1;
+    }
 }
 
 impl<'a> Table<'a> {
@@ -46,9 +55,7 @@ impl<'a> Table<'a> {
         let mut slots = [0u8; 128];
         for place in 0..scan.count {
             let slot = seek(&scan, &slots, scan.name(place));
-            if slots[slot] == 0 {
-                slots[slot] = place as u8 + 1;
-            }
+            keep(&mut slots, slot, place);
         }
         Table { scan, slots }
     }

@@ -2,7 +2,7 @@
 use Prim.Native.Nat.{ℕ, zero, suc, _+_, _-_, _<_, _≤_}
 use mathlib.Core.Path.{_≡_, refl, sym, ap, _∙_, subst}
 use mathlib.Core.Bool.{Bool, true, false}
-use mathlib.Core.List.{List, [], _∷_, _++_, map as mapped}
+use mathlib.Core.List.{List, _∷_, _++_, map as mapped}
 use native.Mathlib.Omega.{arith}
 use native.Mathlib.Decide.{decLt}
 use lib.ListN.{length, getD, length-append}
@@ -11,7 +11,7 @@ use Rattle.std.specs.shelf.Lists.{All}
 use Rattle.std.proofs.shelf.Lists.{map-append, getD-append-left, getD-append-right}
 use Rattle.std.proofs.shelf.Elements.{all-append}
 use Rattle.bytes.specs.Lists.{between}
-use Rattle.schema.specs.Tree.{Branch, struct, list, fixed, map, Node, branch, leaf, Fields, _⊕_, fieldOf, childrenOf, nodes, nodesIn, nodeAt, Childed}
+use Rattle.schema.specs.Tree.{Node, branch, leaf, Fields, _⊕_, fieldOf, childrenOf, nodes, nodesIn, nodeAt, Childed}
 use Rattle.schema.specs.Layout.{recordCount, endAt}
 use Rattle.schema.specs.Held.{Limited, bit, Written, Held, HeldIn}
 use Rattle.schema.specs.Held.Held.{node}
@@ -55,6 +55,10 @@ mutual
 
 pub held-end : {rs ns : List ℕ} {i : ℕ} {t : Node} → Held rs ns i t → (i < endAt rs i) × (endAt rs i ≤ recordCount rs)
 held-end {t = t} h = (omega (arith, held-written h .end, ap length (nodes-is t)), omega (arith, held-written h .end, held-ends h))
+
+-- a node, and then all that stands below its children
+pub held-size : {rs ns : List ℕ} {i : ℕ} {t : Node} → Held rs ns i t → endAt rs i ≡ i + 1 + length (nodesIn (childrenOf t))
+held-size {t = t} h = omega (arith, held-written h .end, ap length (nodes-is t))
 
 -- the tree of each node below is held from its own number on
 mutual

@@ -12,31 +12,8 @@ use Rattle.schema.specs.Held.{letterOf, wideOf, countOf, Limited, bit, Written
 use Rattle.schema.specs.Held.Held.{node}
 use Rattle.schema.specs.Held.HeldIn.{nothing, more}
 use Rattle.schema.specs.Checks.{Kinded, Fit}
+use Rattle.schema.proofs.Letters.{nodeOf, again}
 use Rattle.schema.specs.Checks.Kinded.{struct′, fixed′, list′, view′, map′, text′, boolean′, null′, custom′}
-
--- the node that a letter, a wide flag and a count name
-abbrev pub nodeOf : ℕ → Bool → ℕ → Field → Fields → Node
-nodeOf l w n f cs =
-    cond (eqb l (the "S")) (branch f struct cs)
-    (cond (eqb l (the "L")) (branch f (list false w) cs)
-    (cond (eqb l (the "V")) (branch f (list true w) cs)
-    (cond (eqb l (the "F")) (branch f (fixed n) cs)
-    (cond (eqb l (the "M")) (branch f Branch.map cs)
-    (cond (eqb l (the "T")) (leaf f (text w))
-    (cond (eqb l (the "B")) (leaf f boolean)
-    (cond (eqb l (the "N")) (leaf f LeafKind.null) (leaf f custom))))))))
-
--- and each node is what its own say
-pub again : (t : Node) → t ≡ nodeOf (letterOf t) (wideOf t) (countOf t) (fieldOf t) (childrenOf t)
-again (branch f struct cs) = refl
-again (branch f (list false w) cs) = refl
-again (branch f (list true w) cs) = refl
-again (branch f (fixed n) cs) = refl
-again (branch f Branch.map cs) = refl
-again (leaf f (text w)) = refl
-again (leaf f boolean) = refl
-again (leaf f LeafKind.null) = refl
-again (leaf f custom) = refl
 
 -- how many children it has
 abbrev manyFor : ℕ → ℕ → ℕ

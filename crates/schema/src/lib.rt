@@ -51,18 +51,12 @@ impl<'a> Schema<'a> {
         }
     }
 
-    // The bytes of the records.
-    pub fn records(self) -> &'a [u8]
-        ensures { λ r. ⌜ now r ≡ recordsOf (self .entry) ⌝ }
+    // The bytes of the records, and of the names.
+    pub fn bytes(self) -> (&'a [u8], &'a [u8])
+        ensures records { λ r. ⌜ now (r .0) ≡ recordsOf (self .entry) ⌝ }
+        ensures names { λ r. ⌜ now (r .1) ≡ namesOf (self .entry) ⌝ }
     {
-        self.records
-    }
-
-    // The bytes of the names.
-    pub fn names(self) -> &'a [u8]
-        ensures { λ r. ⌜ now r ≡ namesOf (self .entry) ⌝ }
-    {
-        self.names
+        (self.records, self.names)
     }
 
     // How many nodes there are.

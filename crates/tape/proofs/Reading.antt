@@ -1,12 +1,11 @@
 -- What a tape's letters say of its values.
-use Prim.Native.Nat.{ℕ, _+_, _-_, _*_, _/_, _%_, _<_, _≤_}
+use Prim.Native.Nat.{ℕ, _+_, _-_, _*_, _%_, _<_, _≤_}
 use mathlib.Core.List.{List}
 use mathlib.Core.Path.{_≡_, refl, sym, _∙_, ap, subst}
 use mathlib.Core.Logic.{_⊎_, inl, inr}
-use mathlib.Core.Bool.{cond, false}
+use mathlib.Core.Bool.{false}
 use native.Mathlib.Omega.{arith}
-use lib.ListN.{length, getD}
-use lib.Dec.{eqb}
+use lib.ListN.{length}
 use native.Mathlib.Decide.{decLt}
 use Rattle.std.proofs.shelf.Lists.{getD-past}
 use Rattle.std.proofs.shelf.Tests.{false≢true}
@@ -17,7 +16,9 @@ use Rattle.tape.specs.Grammar.Leaf.{string, number, i32, true′, false′, nu
 use Rattle.tape.specs.Grammar.Value.{leaf, i64, list, object}
 use Rattle.tape.specs.Grammar.Values.{none, more}
 use Rattle.tape.specs.Grammar.Pairs.{noPair, pair}
-use Rattle.tape.specs.Answer.{ListTo, ObjectTo}
+use Rattle.std.specs.declared.option.Option.{Option}
+use Rattle.std.specs.declared.option.Option.the-variants.{Some, None}
+use Rattle.tape.specs.Answer.{Finds, Meets, ListTo, ObjectTo}
 
 -- a test that failed, of what does not hold
 pub never : {P : Type 0} → (P → ⊥) → Decides false P
@@ -174,19 +175,32 @@ list-to {es} w x = record { values = x .values; closes = x .partners .closes; wi
 pub object-to : {es : List ℕ} {m d p q : ℕ} → length es % 8 ≡ 0 → (x : ObjectAt es m d p q) → ObjectTo es m (d - 1) (p + 1) (x .end)
 object-to {es} w x = record { pairs = x .pairs; closes = x .partners .closes; within = within es (x .end) w (omega (arith, x .partners .closes)) }
 
-pub no-list : {es : List ℕ} {m d p end : ℕ} → length es % 8 ≡ 0 → letterAt es p ≡ 91 → ((k : ℕ) → ListTo es m (d - 1) (p + 1) k → k ≡ end)
-    → (numberAt es p ≡ end → numberAt es end ≡ p → ⊥) → (k : ℕ) → Value es m d p k → ⊥
-no-list {es} {end = end} w a only apart k v =
-    let x = value-list a v in
-    let e : x .end ≡ end = only (x .end) (list-to w x) in
-    apart (x .partners .to ∙ e) (ap (numberAt es) (sym e) ∙ x .partners .back)
+finds-like : {P Q : ℕ → Type 0} (r : Option ℕ) → ((k : ℕ) → P k → Q k) → ((k : ℕ) → Q k → P k) → Finds P r → Finds Q r
+finds-like None f g h = λ k q. h k (g k q)
+finds-like (Some k) f g h = (f k (h .0), λ j q. h .1 j (g j q))
 
-pub no-object : {es : List ℕ} {m d p end : ℕ} → length es % 8 ≡ 0 → letterAt es p ≡ 123 → ((k : ℕ) → ObjectTo es m (d - 1) (p + 1) k → k ≡ end)
-    → (numberAt es p ≡ end → numberAt es end ≡ p → ⊥) → (k : ℕ) → Value es m d p k → ⊥
-no-object {es} {end = end} w a only apart k v =
-    let x = value-object a v in
-    let e : x .end ≡ end = only (x .end) (object-to w x) in
-    apart (x .partners .to ∙ e) (ap (numberAt es) (sym e) ∙ x .partners .back)
+-- a list or an object whose brackets meet is a value, and no other is
+pub list-met : {es : List ℕ} {m q : ℕ} (d p : ℕ) → length es % 8 ≡ 0 → 0 < d → letterAt es p ≡ 91
+    → ListTo es m (d - 1) (p + 1) q × ((k : ℕ) → ListTo es m (d - 1) (p + 1) k → k ≡ q) → (r : Option ℕ) → Finds (Meets es p q) r → Finds (Value es m d p) r
+list-met {es} {m} d p w deep a l r h =
+    finds-like r
+    (λ k x. subst (Value es m d p) (sym (x .next)) (list deep (l .0 .values) (record { opens = a; to = x .to; closes = l .0 .closes; back = x .back })))
+    (λ k v.
+    let y = value-list a v in
+    let e = l .1 (y .end) (list-to w y) in
+    record { to = y .partners .to ∙ e; back = ap (numberAt es) (sym e) ∙ y .partners .back; next = y .after ∙ ap (λ z. z + 1) e })
+    h
+
+pub object-met : {es : List ℕ} {m q : ℕ} (d p : ℕ) → length es % 8 ≡ 0 → 0 < d → letterAt es p ≡ 123
+    → ObjectTo es m (d - 1) (p + 1) q × ((k : ℕ) → ObjectTo es m (d - 1) (p + 1) k → k ≡ q) → (r : Option ℕ) → Finds (Meets es p q) r → Finds (Value es m d p) r
+object-met {es} {m} d p w deep a l r h =
+    finds-like r
+    (λ k x. subst (Value es m d p) (sym (x .next)) (object deep (l .0 .pairs) (record { opens = a; to = x .to; closes = l .0 .closes; back = x .back })))
+    (λ k v.
+    let y = value-object a v in
+    let e = l .1 (y .end) (object-to w y) in
+    record { to = y .partners .to ∙ e; back = ap (numberAt es) (sym e) ∙ y .partners .back; next = y .after ∙ ap (λ z. z + 1) e })
+    h
 
 -- The steps of the loop over the values of the whole tape, which end at e.
 pub values-step : {es : List ℕ} {m d p q e : ℕ} → p < e → Value es m d p q → Values es m d p e → Values es m d q e

@@ -3,12 +3,11 @@ use Prim.Native.Nat.{ℕ, _+_, _-_, _%_, _<_, _≤_, zero, suc}
 use mathlib.Core.Bool.{Bool, true, _||_}
 use mathlib.Core.List.{List, [], _∷_}
 use mathlib.Core.Path.{_≡_, refl, sym, _∙_, ap, subst}
-use mathlib.Core.Logic.{_⊎_, inl, inr}
+use mathlib.Core.Logic.{inl, inr}
 use native.Mathlib.Omega.{arith}
-use lib.Dec.{eqb, ltb}
 use lib.ListN.{length, getD}
 use lib.ListN.{length-take, length-drop}
-use Rattle.std.proofs.shelf.Tests.{ltb-true, lt-ltb, le-ltb, eqb-true, eq-eqb, and-parts, and-from, cases-bool}
+use Rattle.std.proofs.shelf.Tests.{lt-ltb, le-ltb, eqb-true, eq-eqb, and-parts, and-from, cases-bool}
 use Rattle.std.proofs.shelf.Text.{utf8-between}
 use Rattle.std.proofs.shelf.Ways.{tells}
 use Rattle.bytes.specs.Lists.{all}
@@ -19,13 +18,13 @@ use Rattle.tape.specs.Grammar.Value.{leaf, i64, list, object}
 use Rattle.tape.specs.Grammar.Values.{none, more}
 use Rattle.tape.specs.Grammar.Pairs.{noPair, pair}
 use Rattle.tape.specs.Opens.{Untorn}
-use Rattle.tape.specs.View.{TapeView, isAt, textAt, elementAt, steps, entries, isPosition, null}
-use Rattle.tape.specs.Walk.{Steps, PairSteps, InTurn, Bracketed, Object, Held, onward, ListLaw, ObjectLaw, RowsLaw, NextLaw, FirstLaw, TextLaw}
+use Rattle.tape.specs.View.{TapeView, isAt, steps, entries, isPosition}
+use Rattle.tape.specs.Walk.{Steps, PairSteps, InTurn, Bracketed, Held, onward, ListLaw, ObjectLaw, RowsLaw, NextLaw, FirstLaw, TextLaw}
 use Rattle.tape.specs.Walk.Steps.{here, step}
 use Rattle.tape.specs.Walk.PairSteps.{there, turn}
 use Rattle.tape.proofs.Cover.{Covered, covered, text-within}
 use Rattle.tape.proofs.Cover.Covered.{starts, ends, second}
-use Rattle.tape.proofs.Reading.{leaf-facts, value-facts, value-within, value-forward, values-forward, pairs-forward, value-next, value-list, value-object, within}
+use Rattle.tape.proofs.Reading.{leaf-facts, value-facts, value-within, value-forward, value-next, value-list, value-object, within}
 
 -- p is not the second half of a 'j'
 abbrev NotSecond : List ℕ → ℕ → Type 0
@@ -285,3 +284,9 @@ pub all-at : {A : Type 0} (f : A → Bool) (xs : List A) (k : ℕ) (d : A) → a
 all-at f [] k d h l = absurd (omega arith)
 all-at f (x ∷ xs) zero d h l = and-parts (f x) (all f xs) h .0
 all-at f (x ∷ xs) (suc k) d h l = all-at f xs k d (and-parts (f x) (all f xs) h .1) (omega arith)
+
+-- pairs are two entries each
+pub turns-even : (t : TapeView) (ps : List ℕ) → InTurn t ps → length ps % 2 ≡ 0
+turns-even t [] h = refl
+turns-even t (n ∷ []) h = absurd h
+turns-even t (n ∷ (v ∷ ps)) h = omega (arith, turns-even t ps (h .1))

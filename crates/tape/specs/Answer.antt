@@ -1,5 +1,5 @@
 -- What the check of a tape answers.
-use Prim.Native.Nat.{ℕ, _<_}
+use Prim.Native.Nat.{ℕ, _+_, _<_}
 use mathlib.Core.List.{List}
 use mathlib.Core.Path.{_≡_}
 use Rattle.std.specs.declared.option.Option.{Option}
@@ -9,9 +9,9 @@ use Rattle.std.specs.declared.result.Result.the-variants.{Ok, Err}
 use Rattle.slip.specs.declared.Fault.{Fault}
 use Rattle.slip.specs.Slips.{Slip, slip, slipOf}
 use Rattle.tape.specs.declared.Tape.{Tape}
-use Rattle.tape.specs.Layout.{the, letterAt, elementCount}
+use Rattle.tape.specs.Layout.{the, letterAt, numberAt, elementCount}
 use Rattle.tape.specs.Grammar.{Values, Pairs}
-use Rattle.tape.specs.Opens.{Untorn, viewOf}
+use Rattle.tape.specs.Opens.{Untorn, Opened, viewOf}
 use Rattle.tape.specs.View.{TapeView}
 
 -- the answer is the one index that P holds of, and none where P holds of none
@@ -31,11 +31,17 @@ pub record ObjectTo (es : List ℕ) (m d p q : ℕ) : Type 0 where
   pub closes : letterAt es q ≡ the "}"
   pub within : q < elementCount es
 
+-- brackets at p and q have each other's index, and k is the index after them
+pub record Meets (es : List ℕ) (p q k : ℕ) : Type 0 where
+  pub to : numberAt es p ≡ q
+  pub back : numberAt es q ≡ p
+  pub next : k ≡ q + 1
+
 -- the refusal of bytes that are no tape
 abbrev pub torn : Slip
 torn = slip 1 0 0
 
 -- Opening answers the tape with exactly these bytes where they are a tape, and the torn-tape refusal where they are none.
 abbrev pub OpensTo : TapeView → Result Tape Fault → Type 0
-OpensTo v (Ok t) = Untorn v × (viewOf t ≡ v)
+OpensTo v (Ok t) = Opened t × (viewOf t ≡ v)
 OpensTo v (Err f) = (Untorn v → ⊥) × (slipOf f ≡ torn)

@@ -1,11 +1,11 @@
 // Whether three byte slices are a tape.
 ghost use mathlib.Core.Path.{_≡_};
-ghost use Prim.Native.Nat.{ℕ, _+_, _%_, _<_, _≤_};
+ghost use Prim.Native.Nat.{ℕ, _+_, _%_, _<_};
 ghost use lib.ListN.{length};
 ghost use Rattle.std.specs.Orderings.{Decides};
 ghost use Rattle.tape.specs.Layout.{letterAt, numberAt, offsetAt, elementCount, offsetCount};
 ghost use Rattle.tape.specs.Grammar.{Value, Values};
-ghost use Rattle.tape.specs.Answer.{Finds, ListTo, ObjectTo};
+ghost use Rattle.tape.specs.Answer.{Finds, Meets, ListTo, ObjectTo};
 ghost use Rattle.tape.specs.Opens.{Bare, Rise, Texts, Opens};
 use bytes::u32_at;
 
@@ -117,21 +117,26 @@ fn value(elements: &[u8], offsets: usize, depth: usize, at: usize) -> Option<usi
         'j' if at + 1 < elements.len() / 8 && letter(elements, at + 1) == 'i' => Some(at + 2),
         '[' if depth > 0 => {
             let end = list(elements, offsets, depth - 1, at + 1)?;
-            if n == end && number(elements, end) as usize == at {
-                Some(end + 1)
-            } else {
-                None
-            }
+            after(elements, at, end)
         }
         '{' if depth > 0 => {
             let end = object(elements, offsets, depth - 1, at + 1)?;
-            if n == end && number(elements, end) as usize == at {
-                Some(end + 1)
-            } else {
-                None
-            }
+            after(elements, at, end)
         }
         _ => None,
+    }
+}
+
+// The index after the bracket at `end`, where it and the one at `at` are partners.
+fn after(elements: &[u8], at: usize, end: usize) -> Option<usize>
+    requires at { ⌜ at < elementCount (now elements) ⌝ }
+    requires end { ⌜ end < elementCount (now elements) ⌝ }
+    ensures { λ r. ⌜ Finds (Meets (now (elements .entry)) at end) r ⌝ }
+{
+    if number(elements, at) as usize == end && number(elements, end) as usize == at {
+        Some(end + 1)
+    } else {
+        None
     }
 }
 

@@ -4,7 +4,7 @@ ghost use mathlib.Core.Path.{_≡_};
 ghost use Prim.Native.Nat.{_+_, _*_, _^_, _<_};
 ghost use lib.ListN.{length};
 ghost use Rattle.tape.specs.Answer.{OpensTo};
-ghost use Rattle.tape.specs.Elements.{tapeElementAt};
+ghost use Rattle.tape.specs.Elements.{tapeElementAt, LetterLaw};
 ghost use Rattle.tape.specs.Layout.{the, nextAt, numberAt, elementCount, offsetCount};
 ghost use Rattle.tape.specs.Opens.{Opened, viewOf};
 ghost use Rattle.tape.specs.Values.{elemOf};
@@ -168,6 +168,7 @@ pub fn walks_stand() -> u8
     ensures next { λ _. ⌜ NextLaw ⌝ }
     ensures first { λ _. ⌜ FirstLaw ⌝ }
     ensures text { λ _. ⌜ TextLaw ⌝ }
+    ensures letter { λ _. ⌜ LetterLaw ⌝ }
 {
     0
 }

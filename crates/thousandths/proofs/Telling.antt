@@ -2,22 +2,23 @@
 use mathlib.Core.Path.{_≡_, refl, sym, ap, subst, _∙_}
 use mathlib.Core.Bool.{Bool, true, false}
 use mathlib.Core.List.{List}
-use Prim.Native.Nat.{ℕ, zero, suc, _/_, _<_, _≤_}
+use Prim.Native.Nat.{ℕ, zero, suc, _-_, _/_, _^_, _<_, _≤_}
 use native.Mathlib.Omega.{arith}
 use native.Mathlib.Nat.{pow-le-pow-right}
 use lib.Dec.{eqb}
-use lib.IntN.{ℤ}
+use lib.IntN.{ℤ, pos, negsuc, natAbs}
 use lib.ListN.{length, drop}
 use mir.Syntax.{w64}
 use mir.Val.{ofZ}
 use Rattle.std.specs.declared.option.Option.{Option}
 use Rattle.std.specs.declared.option.Option.the-variants.{Some, None}
-use Rattle.std.proofs.shelf.Tests.{cond-both, cond-true, cond-false}
+use Rattle.std.proofs.shelf.Tests.{cond-both, cond-true, cond-false, lt-ltb, le-ltb}
 use Rattle.thousandths.specs.Decimal.{Decimal, Unread, unit}
 use Rattle.thousandths.specs.Says.{Says, Tells, signedBy}
 use Rattle.thousandths.specs.Split.{minusOf, unsigned, front, behind, proper, sizeOf, thousandthsOf}
-use Rattle.bytes.specs.Numbers.{le}
-use Rattle.tape.specs.View.{object, list, string, number, i64, i32, bool, null}
+use Rattle.bytes.specs.Numbers.{le, number as numberOf}
+use Rattle.bytes.proofs.Pieces.{number-le}
+use Rattle.tape.specs.View.{object, list, string, number, i64, i32, bool, null, twos}
 use Rattle.leaf.specs.Bytes.{AreBytes, Valued, GivesBytes}
 use Rattle.leaf.specs.Laws.{Fits}
 use Rattle.leaf.specs.Meaning.{value}
@@ -74,8 +75,16 @@ eight-bytes : (o : Option ℤ) → Valued AreBytes (answerOf o)
 eight-bytes (Some z) = le-bytes 8 (ofZ w64 z)
 eight-bytes None = tt
 
+eight-reads : (z : ℤ) → natAbs z < 2 ^ 63 → twos (2 ^ 63) (numberOf (eight z)) ≡ z
+eight-reads (pos n) h =
+    ap (twos (2 ^ 63)) (number-le 8 n (omega arith)) ∙ cond-true _ _ _ (lt-ltb n (2 ^ 63) h)
+eight-reads (negsuc n) h =
+    ap (twos (2 ^ 63)) (number-le 8 (2 ^ 64 - suc n) (omega arith))
+    ∙ cond-false _ _ _ (le-ltb (2 ^ 64 - suc n) (2 ^ 63) (omega arith))
+    ∙ ap negsuc (omega arith)
+
 pub well-laid : WellLaid
-well-laid = record { fits = fits; bytes = bytes }
+well-laid = record { fits = fits; bytes = bytes; reads = eight-reads }
   where
     fits : Fits thousandthsLeaf
     fits object bs e = eight-fits None bs e

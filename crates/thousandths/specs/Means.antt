@@ -2,15 +2,15 @@
 use mathlib.Core.Path.{_≡_}
 use mathlib.Core.Bool.{cond}
 use mathlib.Core.List.{List}
-use Prim.Native.Nat.{ℕ, _^_}
+use Prim.Native.Nat.{ℕ, _^_, _<_}
 use lib.Dec.{ltb}
 use lib.IntN.{ℤ, pos, natAbs, _*ℤ_}
 use mir.Syntax.{w64}
 use mir.Val.{ofZ}
 use Rattle.std.specs.declared.option.Option.{Option}
 use Rattle.std.specs.declared.option.Option.the-variants.{Some, None}
-use Rattle.bytes.specs.Numbers.{le}
-use Rattle.tape.specs.View.{Elem, object, list, string, number, i64, i32, bool, null}
+use Rattle.bytes.specs.Numbers.{le, number as numberOf}
+use Rattle.tape.specs.View.{Elem, object, list, string, number, i64, i32, bool, null, twos}
 use Rattle.leaf.specs.Bytes.{GivesBytes}
 use Rattle.leaf.specs.Laws.{Fits}
 use Rattle.leaf.specs.Meaning.{Answer, nothing, conflict, misfit, value, Meaning}
@@ -53,6 +53,7 @@ ofThousandths (i32 z) = answerOf (wholeOf z)
 ofThousandths (bool b) = conflict
 ofThousandths null = nothing
 
+-- the leaf, by its meaning
 abbrev pub thousandthsLeaf : Meaning
 thousandthsLeaf = record { layout = Eight; answer = ofThousandths }
 
@@ -67,7 +68,8 @@ Right text (value bs) = (z : ℤ) × Tells text (Some z) × (bs ≡ eight z)
 abbrev pub RightAnswers : Type 0
 RightAnswers = (text : List ℕ) → Right text (ofThousandths (number text))
 
--- every value fits the layout, and is bytes
+-- every value fits the layout, and is bytes, from which the number is read again
 pub record WellLaid : Type 0 where
   pub fits : Fits thousandthsLeaf
   pub bytes : GivesBytes thousandthsLeaf
+  pub reads : (z : ℤ) → natAbs z < 2 ^ 63 → twos (2 ^ 63) (numberOf (eight z)) ≡ z

@@ -5,6 +5,7 @@ use lib.IntN.{pos, negsuc}
 use Rattle.std.specs.declared.option.Option.the-variants.{Some, None}
 use Rattle.thousandths.specs.Says.{Tells}
 
+-- rounding, the sign of none, the largest number, and texts that are no number
 pub record Samples : Type 0 where
   pub up : Tells (codes "1.0005") (Some (pos 1001))
   pub down : Tells (codes "1.000499999999999999") (Some (pos 1000))

@@ -9,6 +9,7 @@ use Rattle.std.specs.declared.option.Option.the-variants.{Some, None}
 use Rattle.thousandths.specs.Decimal.{Decimal, Unread, top, unit}
 use Rattle.thousandths.specs.Nearest.{Nearest}
 
+-- a size with its sign
 abbrev pub signedBy : Bool → ℕ → ℤ
 signedBy false m = pos m
 signedBy true m = negℤ (pos m)

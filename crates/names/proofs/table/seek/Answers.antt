@@ -1,5 +1,5 @@
 use Prim.Native.Nat.{_+_, _%_}
-use mathlib.Core.Path.{_≡_, sym, ap, _∙_, refl, subst}
+use mathlib.Core.Path.{_≡_, refl}
 use mathlib.Core.Logic.{inl, inr}
 use native.Mathlib.Omega.{arith}
 use borrow.Author.Count.{below-more}
@@ -9,7 +9,7 @@ use Rattle.names.specs.Scans.{scanNames}
 use Rattle.names.specs.Slots.{Other}
 use Rattle.names.proofs.Seats.{some-empty, sought-from}
 use Rattle.names.proofs.table.seek.Needs as need
-use Rattle.names.proofs.table.seek.Needs.{then-held-eq0·by·then-held-eq0, then-held-eq0·by·else-held-eq0·then-same}
+use Rattle.names.proofs.table.seek.Needs.{then-held-eq0·by·then-held-eq0, then-held-eq0·by·else-held-eq0·then-has}
 
 pub unreachable-requires : need.unreachable-requires
 unreachable-requires c κs =
@@ -23,11 +23,11 @@ returns-then-held-eq0 c = record {
   sought = sought-from (c .loop-step .step) (c .hash-first .ensures .value) (c .loop-step .inv)
       (elim (c .then-held-eq0 .came) [
         | then-held-eq0·by·then-held-eq0 w ↦ inl (w .if-held-eq0 .taken)
-        | then-held-eq0·by·else-held-eq0·then-same w ↦ inr (sym (w .name .ensures) ∙ w .if-same .ensures tt .0 refl)
+        | then-held-eq0·by·else-held-eq0·then-has w ↦ inr (w .if-has .ensures tt .0 refl)
       ]);
 }
 
 pub loop-step-again : need.loop-step-again
 loop-step-again c =
     below-more (λ j. Other (scanNames (c .args .scan .now)) (c .args .slots .now) (c .args .name .now) ((c .hash-first .result + j) % 128)) (c .loop-step .step) (c .loop-step .inv)
-    (record { full = omega arith; apart = λ e. false≢true (c .if-same .ensures tt .1 (c .name .ensures ∙ e)) })
+    (record { full = omega arith; apart = λ e. false≢true (c .if-has .ensures tt .1 e) })

@@ -1,15 +1,12 @@
-use mathlib.Core.Path.{_≡_, sym, _∙_}
+use mathlib.Core.Path.{sym, _∙_}
 use Prim.Native.Nat.{_+_}
 use native.Mathlib.Omega.{arith}
-use lib.ListN.{length}
-use Rattle.tape.specs.Layout.{letterAt, numberAt}
 use Rattle.tape.specs.Grammar.Leaf.{i32}
 use Rattle.tape.specs.Grammar.Value.{leaf, i64, list, object}
 use Rattle.tape.specs.Grammar.Values.{none, more}
 use Rattle.tape.specs.Grammar.Pairs.{noPair, pair}
-use Rattle.tape.proofs.Reading.{within, value-facts, value-within, value-forward, values-forward, pairs-forward, list-step, list-stuck, list-stop, object-step, object-stuck, object-stop, found, held, plain, value-list, value-object, list-to, object-to, no-list, no-object}
+use Rattle.tape.proofs.Reading.{within, value-facts, value-within, value-forward, values-forward, pairs-forward, list-step, list-stuck, list-stop, object-step, object-stuck, object-stop, found, held, plain, value-list, value-object, list-to, object-to, list-met, object-met}
 use Rattle.tape.proofs.check.+list+object+value.Needs as need
-use Rattle.tape.proofs.check.+list+object+value.Needs.{value-else-n-end·by·then-n-end·else-number-at, value-else-n-end·by·else-n-end, value-else-n-end-2·by·then-n-end-2·else-number-at-2, value-else-n-end-2·by·else-n-end-2}
 
 -- list
 
@@ -92,27 +89,15 @@ pub value-returns-in-t : need.value-returns-in-t
 value-returns-in-t t c = found (leaf (plain (c .letter .ensures) (c .number-n .ensures) (c .in-t .is) (c .if-n-eq0 .taken)))
 
 pub value-returns-in-j : need.value-returns-in-j
-value-returns-in-j t c = found (i64 (sym (c .letter .ensures) ∙ c .in-j .is) (sym (c .letter-then-at-elements-2 .ensures) ∙ c .if-letter-eq105 .taken))
+value-returns-in-j t c = found (i64 (sym (c .letter .ensures) ∙ c .in-j .is) (omega arith))
 
-pub value-returns-then-number-at : need.value-returns-then-number-at
-value-returns-then-number-at t c =
-    let l = c .in-Continue-end .ensures tt .0 in
-    found (list (omega arith) (l .values) (record { opens = sym (c .letter .ensures) ∙ c .in-91 .is; to = sym (c .number-n .ensures) ∙ c .if-n-end .taken; closes = l .closes; back = sym (c .number .ensures) ∙ c .if-number-at .taken }))
+pub value-returns-in-Continue-end : need.value-returns-in-Continue-end
+value-returns-in-Continue-end t c =
+    list-met (c .args .depth) (c .args .at) (c .pre) (c .if-depth-gt0 .taken) (sym (c .letter .ensures) ∙ c .in-91 .is) (c .in-Continue-end .ensures tt) (c .after .result) (c .after .ensures)
 
-pub value-returns-else-n-end : need.value-returns-else-n-end
-value-returns-else-n-end t c =
-    no-list (c .pre) (sym (c .letter .ensures) ∙ c .in-91 .is) (c .in-Continue-end .ensures tt .1)
-    (λ x y. elim (c .else-n-end .came) [ value-else-n-end·by·then-n-end·else-number-at w ↦ omega arith | value-else-n-end·by·else-n-end w ↦ omega arith ])
-
-pub value-returns-then-number-at-2 : need.value-returns-then-number-at-2
-value-returns-then-number-at-2 t c =
-    let l = c .in-Continue-end-2 .ensures tt .0 in
-    found (object (omega arith) (l .pairs) (record { opens = sym (c .letter .ensures) ∙ c .in-123 .is; to = sym (c .number-n .ensures) ∙ c .if-n-end-2 .taken; closes = l .closes; back = sym (c .number-then-n-end-2 .ensures) ∙ c .if-number-at-2 .taken }))
-
-pub value-returns-else-n-end-2 : need.value-returns-else-n-end-2
-value-returns-else-n-end-2 t c =
-    no-object (c .pre) (sym (c .letter .ensures) ∙ c .in-123 .is) (c .in-Continue-end-2 .ensures tt .1)
-    (λ x y. elim (c .else-n-end-2 .came) [ value-else-n-end-2·by·then-n-end-2·else-number-at-2 w ↦ omega arith | value-else-n-end-2·by·else-n-end-2 w ↦ omega arith ])
+pub value-returns-in-Continue-end-2 : need.value-returns-in-Continue-end-2
+value-returns-in-Continue-end-2 t c =
+    object-met (c .args .depth) (c .args .at) (c .pre) (c .if-depth-gt0-2 .taken) (sym (c .letter .ensures) ∙ c .in-123 .is) (c .in-Continue-end-2 .ensures tt) (c .after-in-123 .result) (c .after-in-123 .ensures)
 
 pub value-returns-in-rest : need.value-returns-in-rest
 value-returns-in-rest t c = λ k v. omega (arith, value-facts v)

@@ -22,5 +22,5 @@ loop-place-again c =
 
 pub returns : need.returns
 returns c =
-    let done = scan-made (c .args .node) (c .pre .opened .1) (c .pre .within) (c .pre .kind) (c .count-count .ensures .said) (omega arith) (c .loop-place .inv) _ (c .records .ensures) (c .names .ensures) refl refl in
+    let done = scan-made (c .args .node) (c .pre .opened .1) (c .pre .within) (c .pre .kind) (c .count-count .ensures .said) (omega arith) (c .loop-place .inv) _ (c .bytes .ensures .records) (c .bytes .ensures .names) refl refl in
     record { ready = done .ready; count = c .count-count .ensures .said; names = done .named }

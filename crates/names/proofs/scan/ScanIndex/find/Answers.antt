@@ -1,4 +1,4 @@
-use mathlib.Core.Path.{sym, _∙_, refl}
+use mathlib.Core.Path.{refl}
 use native.Mathlib.Omega.{arith}
 use Rattle.std.specs.declared.option.Option.the-variants.{None, Some}
 use Rattle.names.specs.Scans.{scanNames}
@@ -6,10 +6,10 @@ use Rattle.names.proofs.Lowests.{lowest-is}
 use Rattle.names.proofs.Fields.{names-long}
 use Rattle.names.proofs.scan.ScanIndex.find.Needs as need
 
-pub returns-then-same : need.returns-then-same
-returns-then-same c =
+pub returns-then-has : need.returns-then-has
+returns-then-has c =
     lowest-is (scanNames (c .args .self .now)) (c .args .name .now) (Some (c .loop-place .place))
-    (omega (arith, names-long (c .args .self .now) (c .pre)), sym (c .name .ensures) ∙ c .if-same .ensures tt .0 refl, c .loop-place .inv)
+    (omega (arith, names-long (c .args .self .now) (c .pre)), c .if-has .ensures tt .0 refl, c .loop-place .inv)
 
 pub returns : need.returns
 returns c =
