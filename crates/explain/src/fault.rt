@@ -1,9 +1,7 @@
 // Whether a fault fits a schema and a tape, and its whole text.
 ghost use mathlib.Core.Bool.{true};
 ghost use mathlib.Core.Path.{_≡_};
-ghost use Prim.Native.Nat.{_<_};
-ghost use Rattle.schema.specs.Held.{countOf};
-ghost use Rattle.schema.specs.Opened.{Opened as OpenedSchema, TreeOf, NodeOf, sizeOf};
+ghost use Rattle.schema.specs.Opened.{Opened as OpenedSchema, TreeOf};
 ghost use Rattle.schema.specs.Tree.{Node};
 ghost use Rattle.tape.specs.Layout.{the};
 ghost use Rattle.tape.specs.Opens.{Opened, viewOf};
@@ -17,7 +15,6 @@ use crate::sentence::put_few_columns;
 use crate::sentence::put_unknown_column;
 use crate::sentence::put_wrong_count;
 use crate::way::put_way;
-use bytes::u16_at;
 use schema::Schema;
 use schema::settings::Settings;
 use slip::Fault;
@@ -89,14 +86,6 @@ fn words<'a>(tape: Tape<'a>, p: u32) -> &'a [u8]
     }
 }
 
-// The count of node `node`, which two bytes hold.
-fn count(schema: Schema, node: usize) -> u32
-    requires { ⌜ node < sizeOf schema ⌝ }
-    ensures { λ r. ⌜ ((t : Node) → NodeOf (schema .entry) node t → r ≡ countOf t) ⌝ }
-{
-    u32::from(u16_at(schema.records(), 16 * node + 14))
-}
-
 // Puts the text of a fault that fits; `own` is the word of the custom leaf.
 pub(crate) fn put_fault(
     out: &mut [u8],
@@ -118,18 +107,18 @@ pub(crate) fn put_fault(
             put_element(out, to, tape, 64, position)
         }
         Fault::UnknownColumn { name, .. } => put_unknown_column(out, to, words(tape, name)),
-        Fault::ExtraColumn { node, .. } => put_extra_column(out, to, count(schema, node)),
+        Fault::ExtraColumn { node, .. } => put_extra_column(out, to, schema.count(node)),
         Fault::FewColumns { node, row } => put_few_columns(
             out,
             to,
-            tape.entry_count(row) as u32,
-            count(schema, node),
+            tape.entry_count(row),
+            schema.count(node),
         ),
         Fault::WrongCount { node, row } => put_wrong_count(
             out,
             to,
-            count(schema, node),
-            tape.entry_count(row) as u32,
+            schema.count(node),
+            tape.entry_count(row),
         ),
         _ => unreachable(),
     }

@@ -28,11 +28,15 @@ pub(crate) fn put_number(out: &mut [u8], at: usize, n: i64) -> usize
     at.saturating_add(size)
 }
 
-// Puts a count in decimals.
-pub(crate) fn put_count(out: &mut [u8], at: usize, n: u32) -> usize
+// Puts a count in decimals: the digits before the last, and the last.
+pub(crate) fn put_count(out: &mut [u8], at: usize, n: usize) -> usize
     ensures { λ r. ⌜ Puts at (decimal n) (now (out .entry)) (now (out .exit)) r ⌝ }
 {
-    put_number(out, at, n as i64)
+    if n < 10 {
+        return put(out, at, &[b'0' + n as u8]);
+    }
+    let to = put_count(out, at, n / 10);
+    put(out, to, &[b'0' + (n % 10) as u8])
 }
 
 // Puts a comma where more follows.

@@ -60,7 +60,7 @@ pub(crate) fn put_unknown_column(out: &mut [u8], at: usize, name: &[u8]) -> usiz
 }
 
 // More entries than fields.
-pub(crate) fn put_extra_column(out: &mut [u8], at: usize, fields: u32) -> usize
+pub(crate) fn put_extra_column(out: &mut [u8], at: usize, fields: usize) -> usize
     ensures { λ r. ⌜ Puts at (extraColumn fields) (now (out .entry)) (now (out .exit)) r ⌝ }
 {
     let to = put(out, at, b"found extra columns for ");
@@ -69,7 +69,7 @@ pub(crate) fn put_extra_column(out: &mut [u8], at: usize, fields: u32) -> usize
 }
 
 // Fewer entries than fields.
-pub(crate) fn put_few_columns(out: &mut [u8], at: usize, columns: u32, fields: u32) -> usize
+pub(crate) fn put_few_columns(out: &mut [u8], at: usize, columns: usize, fields: usize) -> usize
     ensures { λ r. ⌜ Puts at (fewColumns columns fields) (now (out .entry)) (now (out .exit)) r ⌝ }
 {
     let to = put(out, at, b"found ");
@@ -80,7 +80,7 @@ pub(crate) fn put_few_columns(out: &mut [u8], at: usize, columns: u32, fields: u
 }
 
 // A row of a fixed-size list that has not its count of entries.
-pub(crate) fn put_wrong_count(out: &mut [u8], at: usize, wanted: u32, found: u32) -> usize
+pub(crate) fn put_wrong_count(out: &mut [u8], at: usize, wanted: usize, found: usize) -> usize
     ensures { λ r. ⌜ Puts at (wrongCount wanted found) (now (out .entry)) (now (out .exit)) r ⌝ }
 {
     let to = put(
