@@ -61,7 +61,7 @@ module _ (st : Setup) (t : TapeView) where
         rw (worth-is c (force || fieldOf c .nullable) (first ps) (both .0), worth-items cs force (rest ps) (both .1))
 
 -- what is got of each, where each is got as a function says
-each-worth : {A B : Type 0} (f : A → Got B) (g : A → B) → ((x : A) (y : B) → f x ≡ got y → y ≡ g x) → (xs : List A) (ys : List B) → each f xs ≡ got ys → ys ≡ map g xs
+pub each-worth : {A B : Type 0} (f : A → Got B) (g : A → B) → ((x : A) (y : B) → f x ≡ got y → y ≡ g x) → (xs : List A) (ys : List B) → each f xs ≡ got ys → ys ≡ map g xs
 each-worth f g h [] ys e = let q : ys ≡ [] = cc in q
 each-worth {A} {B} f g h (x ∷ xs) ys e = go (f x) refl (each f xs) (each-worth f g h xs) e
   where

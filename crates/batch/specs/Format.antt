@@ -31,6 +31,7 @@ abbrev pub isMarked : List ℕ → ℕ → Bool
 isMarked [] j = true
 isMarked (b ∷ bs) j = isSet (b ∷ bs) j
 
+-- the same of a column
 abbrev pub isValid : Column → ℕ → Bool
 isValid c j = isMarked (c .validity) j
 
@@ -45,9 +46,11 @@ isWide LeafKind.boolean = false
 isWide LeafKind.null = false
 isWide LeafKind.custom = false
 
+-- how wide a text's offsets are
 abbrev pub textWidth : LeafKind → ℕ
 textWidth k = width (isWide k)
 
+-- offset j of a column
 abbrev pub offset : (width : ℕ) → Column → ℕ → ℕ
 offset w c j = numberIn w (c .offsets) j
 

@@ -27,10 +27,11 @@ use Rattle.laws.specs.Laws.{takes}
 abbrev pub Past : Type 0
 Past = List (TapeView × List ℕ)
 
--- what a batch was shelved from, and how many rows that makes
+-- what a batch was shelved from
 abbrev pub from : Past → ℕ → TapeView × List ℕ
 from past i = getD past i (record { elements = []; texts = []; offsets = [] }, [])
 
+-- how many rows that makes
 abbrev pub rows : Past → ℕ → ℕ
 rows past i = length (from past i .1)
 
@@ -73,12 +74,13 @@ pub record Seen : Type 0 where
   pub reply : Call → Got Reply
   pub next : Call → List ℕ
 
--- 4 comes neither for the list nor for any of its positions alone
+-- full (4) comes neither for the list nor for any of its positions alone
 pub record SpaceEnough (now : Seen) (t : TapeView) (ps : List ℕ) (lent : ℕ) : Type 0 where
   pub whole : numberOf (now .reply (Shelve t ps lent)) ≡ 4 → ⊥
   pub alone : (i : ℕ) → i < length ps → numberOf (now .reply (Shelve t (getD ps i 0 ∷ []) lent)) ≡ 4 → ⊥
 
 module _ (st : Setup) where
+  -- what is seen of a shelf that holds these batches
   abbrev pub seen : Held st → Seen
   seen held = record { page = page st held; reply = answer st held; next = λ c. page st (after st held c) }
 
@@ -100,6 +102,7 @@ module _ (st : Setup) where
     startOn zero = 0
     startOn (suc i) = startOn i + extentAt (startOn i)
 
+    -- the bytes of one
     abbrev pub batchOn : ℕ → List ℕ
     batchOn i = part bytes (startOn i) (extentAt (startOn i))
 
@@ -133,6 +136,7 @@ module _ (st : Setup) where
       pub page : startOn (now .page) (length past) + length (bytesOf st own) ≤ st .size
       pub work : peak st t (st .root) (fieldOf (st .root) .nullable) ps ≤ lent
 
+    -- what holds of a shelf, by what is seen of it and by its past
     pub record Kept : Type 0 where
       -- two batches have equal bytes exactly where their rows are equal
       pub same-bytes : (i j : ℕ) → i < length past → j < length past → (batchOn (now .page) i ≡ batchOn (now .page) j) ↔ SameRows past i j
