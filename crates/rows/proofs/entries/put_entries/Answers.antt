@@ -31,7 +31,7 @@ front : (c : need.In-loop-at) → (c .loop-at .n < length (entries (viewOf (c .a
     × (drop (c .loop-at .n + 1) (entries (viewOf (c .args .tape)) (c .args .p)) ≡ onward (viewOf (c .args .tape)) (nextAt (viewOf (c .args .tape) .elements) (c .loop-at .at)) (c .next-end .result - 1))
 front c =
     let t = viewOf (c .args .tape) in
-    ahead (entries t (c .args .p)) (c .loop-at .n) (c .loop-at .at) _ (c .loop-at .inv .1 ∙ onward-more t (c .loop-at-test .taken) (c .loop-at .inv .0))
+    ahead (entries t (c .args .p)) (c .loop-at .n) (c .loop-at .at) _ 0 (c .loop-at .inv .1 ∙ onward-more t (c .loop-at-test .taken) (c .loop-at .inv .0))
 
 pub mul-work : need.mul-work
 mul-work c =
@@ -70,7 +70,7 @@ loop-at-again c =
     let es = entries t (c .args .p) in
     let end = c .next-end .result - 1 in
     let a = steps-ahead t (c .loop-at-test .taken) (c .loop-at .inv .0) in
-    let f = ahead es (c .loop-at .n) (c .loop-at .at) _ (c .loop-at .inv .1 ∙ onward-more t (c .loop-at-test .taken) (c .loop-at .inv .0)) in
+    let f = ahead es (c .loop-at .n) (c .loop-at .at) _ 0 (c .loop-at .inv .1 ∙ onward-more t (c .loop-at-test .taken) (c .loop-at .inv .0)) in
     let room : c .args .from + c .loop-at .n * c .args .step < length (c .loop-at .work) = omega (arith, c .pre .room (c .loop-at .n) (f .0)) in (
       subst (λ q. Steps t q end) (sym (c .next-at .ensures)) (a .rest),
       f .2 ∙ ap (λ q. onward t q end) (sym (c .next-at .ensures)),
