@@ -38,6 +38,13 @@ all-taken b P Q a p [] h = tt
 all-taken b P Q a p (none ∷ os) h = all-append P (replicate (hides b) a) (joined (map (taken b a) os)) (all-replicate P (hides b) a p) (all-taken b P Q a p os (h .1))
 all-taken b P Q a p (some xs ∷ os) h = all-append P xs (joined (map (taken b a) os)) (h .0 .1) (all-taken b P Q a p os (h .1))
 
+pub all-present : {A : Type 0} (b : Branch) (P : A → Type 0) (a : A) → P a → (os : List (Option (List A))) → All (Present (All P)) os → All P (joined (map (taken b a) os))
+all-present {A} b P a p os h = all-taken b P (λ is. Unit {0}) a p os (all-weaker (Present (All P)) (Present (λ is. Unit {0} × All P is)) with-unit os h)
+  where
+    with-unit : (o : Option (List A)) → Present (All P) o → Present (λ is. Unit {0} × All P is) o
+    with-unit none h = tt
+    with-unit (some is) h = (tt, h)
+
 -- the head of what is left of a list
 drop-head : {A : Type 0} (xs : List A) (i : ℕ) (x : A) (ys : List A) (d : A) → drop i xs ≡ x ∷ ys → (getD xs i d ≡ x) × (i < length xs) × (drop (i + 1) xs ≡ ys)
 drop-head [] zero x ys d e = absurd (let z : _≡_ {A = ℕ} 0 1 = cc in omega arith)

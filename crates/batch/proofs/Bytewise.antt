@@ -24,7 +24,7 @@ use Rattle.batch.specs.Format.{Column, width, textWidth}
 use Rattle.batch.specs.Batch.{nulls, sizes, column, branchColumn, leafColumn, hidden, hiddenItem, columns, columnsIn, sizeOf, placeOf, recordOf, records, buffers}
 use Rattle.batch.specs.Laws.{AllBytes}
 use Rattle.batch.proofs.Sized.{shown-of, all-mapped}
-use Rattle.batch.proofs.Back.{all-taken}
+use Rattle.batch.proofs.Back.{all-present}
 
 abbrev Byte : ℕ → Type 0
 Byte b = b < 256
@@ -98,10 +98,6 @@ leaf-bytes Bit w os h = column-bytes os [] _ tt (packed-bytes (map (λ o. eqb (g
 leaf-bytes Text w os h = column-bytes os _ _ (numbers-bytes w (running 0 (sizes os))) (filled-bytes [] tt os h)
 leaf-bytes Eight w os h = column-bytes os [] _ tt (filled-bytes (replicate 8 0) (zeros 8) os h)
 
-with-unit : {A : Type 0} (P : A → Type 0) (o : Option (List A)) → Present (All P) o → Present (λ is. Unit {0} × All P is) o
-with-unit P none h = tt
-with-unit P (some is) h = (tt, h)
-
 module _ (st : Setup) (gives : GivesBytes (st .custom)) where
   hidden-bytes : (c : Node) → Bytewise c (hidden st c)
   hidden-bytes (branch f b cs) = tt
@@ -116,8 +112,7 @@ module _ (st : Setup) (gives : GivesBytes (st .custom)) where
     columns-bytes (branch f b cs) os h = (
       branch-bytes b os,
       items-bytes cs (joined (map (taken b (hiddenItem st cs)) os))
-          (all-taken b (BytewiseItem cs) (λ is. Unit {0}) (hiddenItem st cs) (hidden-item-bytes cs) os
-          (all-weaker (Present (All (BytewiseItem cs))) (Present (λ is. Unit {0} × All (BytewiseItem cs) is)) (with-unit (BytewiseItem cs)) os h)),
+          (all-present b (BytewiseItem cs) (hiddenItem st cs) (hidden-item-bytes cs) os h),
     )
     columns-bytes (leaf f k) os h = (leaf-bytes (meaning st k .layout) (textWidth k) os h, tt)
 

@@ -11,3 +11,4 @@ pub mod Layouts
 pub mod Filled
 pub mod Whole
 pub mod Bytewise
+pub mod Spelled

@@ -61,7 +61,7 @@ module _ (st : Setup) (rows : List (Value (st .root))) (h : Holdable st rows) wh
   pub count-is : wordIn (bytesOf st rows) 0 0 ≡ length rows
   count-is = slots-are st (bytesOf st rows) (st .root) rows 0 stored .0
 
-at-root : (root : Node) → drop 0 (nodes root) ≡ nodes root ++ []
+pub at-root : (root : Node) → drop 0 (nodes root) ≡ nodes root ++ []
 at-root root = sym (append-nil (nodes root))
 
 module _ (st : Setup) (well : WellFormed (st .root)) (rows : List (Value (st .root))) (h : Holdable st rows) where

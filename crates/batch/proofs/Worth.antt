@@ -1,5 +1,5 @@
 -- A value made total: what is refused counts as null, so that the columns of any positions can be spoken of.
-use mathlib.Core.Path.{_≡_, refl, ap}
+use mathlib.Core.Path.{_≡_, refl, sym, ap, ap₂, _∙_}
 use mathlib.Core.Bool.{Bool, true, false, _&&_, _||_}
 use mathlib.Core.List.{List, [], _∷_, map}
 use mathlib.Core.Option.{Option, none, some}
@@ -59,6 +59,48 @@ module _ (st : Setup) (t : TapeView) where
     worth-items (c ⊕ cs) force ps e =
         let both = and-parts (fits st t c (force || fieldOf c .nullable) (first ps)) (fitItem st t cs force (rest ps)) e in
         rw (worth-is c (force || fieldOf c .nullable) (first ps) (both .0), worth-items cs force (rest ps) (both .1))
+
+-- what is got of each, where each is got as a function says
+pub each-worth : {A B : Type 0} (f : A → Got B) (g : A → B) → ((x : A) (y : B) → f x ≡ got y → y ≡ g x) → (xs : List A) (ys : List B) → each f xs ≡ got ys → ys ≡ map g xs
+each-worth f g h [] ys e = let q : ys ≡ [] = cc in q
+each-worth {A} {B} f g h (x ∷ xs) ys e = go (f x) refl (each f xs) (each-worth f g h xs) e
+  where
+    go : (m : Got B) → f x ≡ m → (n : Got (List B)) → ((zs : List B) → n ≡ got zs → zs ≡ map g xs) → then m (λ y. then n (λ zs. got (y ∷ zs))) ≡ got ys → ys ≡ map g (x ∷ xs)
+    go (refuse r) p n q e = absurd (let z : _≡_ {A = ℕ} 0 1 = cc in omega arith)
+    go (got y) p (refuse r) q e = absurd (let z : _≡_ {A = ℕ} 0 1 = cc in omega arith)
+    go (got y) p (got zs) q e =
+        let is : ys ≡ y ∷ zs = cc in
+        is ∙ ap₂ (λ a r. a ∷ r) (h x y p) (q zs refl)
+
+module _ (st : Setup) (t : TapeView) where
+  -- a value that there is
+  mutual
+    pub value-worth : (c : Node) (force : Bool) (p : ℕ) (v : Value c) → value st t c force p ≡ got v → v ≡ worth st t c force p
+    value-worth (branch f b cs) force p v e = go (item st t cs (below b force)) (worthItem st t cs (below b force)) (item-worth cs (below b force)) (rowAt (st .settings) t f b cs force p) e
+      where
+        one : (w : List ℕ → Item cs) (is : List (List ℕ)) (m : Got (List (Item cs))) → ((xs : List (Item cs)) → m ≡ got xs → xs ≡ map w is) → then m (λ xs. got (some xs)) ≡ got v → v ≡ some (map w is)
+        one w is (refuse r) h e = absurd (let z : _≡_ {A = ℕ} 0 1 = cc in omega arith)
+        one w is (got xs) h e = let q : v ≡ some xs = cc in q ∙ ap some (h xs refl)
+
+        go : (g : List ℕ → Got (Item cs)) (w : List ℕ → Item cs) → ((ps : List ℕ) (i : Item cs) → g ps ≡ got i → i ≡ w ps) → (row : Got (Option (List (List ℕ)))) → then row (inside g) ≡ got v
+            → v ≡ via (map w) (accepted row)
+        go g w h (refuse r) e = absurd (let z : _≡_ {A = ℕ} 0 1 = cc in omega arith)
+        go g w h (got none) e = let q : v ≡ none = cc in q
+        go g w h (got (some is)) e = one w is (each g is) (each-worth g w h is) e
+    value-worth (leaf f k) force p v e = sym (ap accepted e)
+
+    item-worth : (cs : Fields) (force : Bool) (ps : List ℕ) (i : Item cs) → item st t cs force ps ≡ got i → i ≡ worthItem st t cs force ps
+    item-worth Fields.none force ps i e = refl
+    item-worth (c ⊕ cs) force ps i e = go (value st t c F (first ps)) (value-worth c F (first ps)) (item st t cs force (rest ps)) (item-worth cs force (rest ps)) e
+      where
+        F : Bool
+        F = force || fieldOf c .nullable
+
+        go : (m : Got (Value c)) → ((v : Value c) → m ≡ got v → v ≡ worth st t c F (first ps)) → (n : Got (Item cs)) → ((j : Item cs) → n ≡ got j → j ≡ worthItem st t cs force (rest ps))
+            → then m (λ x. then n (λ is. got (x, is))) ≡ got i → i ≡ (worth st t c F (first ps), worthItem st t cs force (rest ps))
+        go (refuse r) h n k e = absurd (let z : _≡_ {A = ℕ} 0 1 = cc in omega arith)
+        go (got x) h (refuse r) k e = absurd (let z : _≡_ {A = ℕ} 0 1 = cc in omega arith)
+        go (got x) h (got is) k e = let q : i ≡ (x, is) = cc in q ∙ (λ j. (h x refl j, k is refl j))
 
 -- the parts of what is got of each
 pub each-parts : {A B : Type 0} (f : A → Got B) (xs : List A) (ys : List B) → each f xs ≡ got ys

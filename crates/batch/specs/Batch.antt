@@ -18,7 +18,7 @@ use Rattle.batch.specs.declared.record.NodeRecord.{NodeRecord}
 use Rattle.batch.specs.Format.{Column, width, textWidth}
 use Rattle.batch.specs.Values.{Setup, Value, Item, meaning, taken}
 
--- a column of values that may be null
+-- how many values are null
 abbrev pub nulls : {A : Type 0} → List (Option A) → ℕ
 nulls [] = 0
 nulls (none ∷ os) = 1 + nulls os
@@ -28,6 +28,7 @@ nulls (some x ∷ os) = nulls os
 abbrev pub validity : {A : Type 0} → List (Option A) → List ℕ
 validity os = cond (eqb (nulls os) 0) [] (packed (map isSome os))
 
+-- a column of values that may be null, with its other two buffers
 abbrev pub column : {A : Type 0} → List (Option A) → (offsets bytes : List ℕ) → Column
 column os offsets bytes = record { slots = length os; nulls = nulls os; validity = validity os; offsets = offsets; bytes = bytes }
 
@@ -35,6 +36,7 @@ column os offsets bytes = record { slots = length os; nulls = nulls os; validity
 abbrev pub sizes : {A : Type 0} → List (Option (List A)) → List ℕ
 sizes os = map (λ o. length (orElse [] o)) os
 
+-- the column of a branch: offsets for lists and maps, offsets and sizes for views, nothing but validity for structs and fixed-size lists
 abbrev pub branchColumn : {A : Type 0} → Branch → List (Option (List A)) → Column
 branchColumn struct os = column os [] []
 branchColumn (list false wide) os = column os (numbers (width wide) (running 0 (sizes os))) []
@@ -42,6 +44,7 @@ branchColumn (list true wide) os = column os (numbers (width wide) (starts 0 (si
 branchColumn (fixed n) os = column os [] []
 branchColumn Branch.map os = column os (numbers 4 (running 0 (sizes os))) []
 
+-- the column of a leaf, by its layout; a null has a bit 0, no text, or eight zeros
 abbrev pub leafColumn : Layout → (width : ℕ) → List (Option (List ℕ)) → Column
 leafColumn None w os = record { slots = length os; nulls = length os; validity = []; offsets = []; bytes = [] }
 leafColumn Bit w os = column os [] (packed (map (λ o. eqb (getD (orElse [] o) 0 0) 1) os))
@@ -54,6 +57,7 @@ module _ (st : Setup) where
   hidden (branch f b cs) = none
   hidden (leaf f k) = shown (meaning st k .answer Elem.null)
 
+  -- and each of the children
   abbrev pub hiddenItem : (cs : Fields) → Item cs
   hiddenItem Fields.none = tt
   hiddenItem (c ⊕ cs) = (hidden c, hiddenItem cs)
@@ -77,17 +81,19 @@ abbrev pub placeOf : (top : ℕ) → List ℕ → List ℕ
 placeOf top [] = le 4 0 ++ le 4 0
 placeOf top (b ∷ bs) = le 4 top ++ le 4 (length (b ∷ bs))
 
+-- the record of a column whose buffers lie at `top`: slots, nulls, then place and length of validity, offsets and data
 abbrev pub recordOf : (top : ℕ) → Column → List ℕ
 recordOf top c =
     le 4 (c .slots) ++ (le 4 (c .nulls) ++ (placeOf top (c .validity)
     ++ (placeOf (top + padded (length (c .validity))) (c .offsets)
     ++ placeOf (top + padded (length (c .validity)) + padded (length (c .offsets))) (c .bytes))))
 
--- the records of columns whose buffers follow one another from `top` on, and those buffers
+-- the records of columns whose buffers follow one another from `top` on
 abbrev pub records : (top : ℕ) → List Column → List ℕ
 records top [] = []
 records top (c ∷ cs) = recordOf top c ++ records (top + sizeOf c) cs
 
+-- each buffer is padded with zeros
 abbrev pub buffers : List Column → List ℕ
 buffers [] = []
 buffers (c ∷ cs) = pad (c .validity) ++ (pad (c .offsets) ++ (pad (c .bytes) ++ buffers cs))
@@ -138,10 +144,11 @@ tookIn bytes n =
     let own = recordIn bytes n in
     padded (own .validity .size) + padded (own .offsets .size) + padded (own .values .size)
 
--- ours: a node's buffers lie end to end from `top` on, and an empty one has place 0
+-- ours: an empty buffer has place 0
 abbrev pub lyingAt : (top size : ℕ) → ℕ
 lyingAt top size = cond (eqb size 0) 0 top
 
+-- ours: a node's buffers lie end to end from `top` on
 pub record InOrder (own : NodeRecord) (top : ℕ) : Type 0 where
   pub validity : own .validity .place ≡ lyingAt top (own .validity .size)
   pub offsets : own .offsets .place ≡ lyingAt (top + padded (own .validity .size)) (own .offsets .size)

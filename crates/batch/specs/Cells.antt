@@ -23,6 +23,7 @@ pub record Cell : Type 0 where
   pub first : ℕ
   pub second : ℕ
 
+-- a cell from its kind and two numbers
 abbrev pub cellOf : ℕ → ℕ → ℕ → Cell
 cellOf kind first second = record { kind = kind; first = first; second = second }
 
@@ -30,6 +31,7 @@ cellOf kind first second = record { kind = kind; first = first; second = second 
 abbrev pub triple : Cell → ℕ × ℕ × ℕ
 triple c = (c .kind, c .first, c .second)
 
+-- a cell that leads to children, by the first slot and their count
 abbrev pub children : ℕ × ℕ → Cell
 children at = cellOf 3 (at .0) (at .1)
 
@@ -67,7 +69,7 @@ cellBy shape base bytes n slot =
 abbrev pub slotCell : Shape → (base : ℕ) (bytes : List ℕ) (node slot : ℕ) → Got Cell
 slotCell shape base bytes n slot = cond (ltb slot (recordIn bytes n .slots)) (got (cellBy shape base bytes n slot)) (refuse notThere)
 
--- the shape of each node
+-- the shape of a branch
 abbrev pub branchShape : Branch → Shape
 branchShape struct = Struct
 branchShape (list false wide) = ListOf wide
@@ -75,10 +77,12 @@ branchShape (list true wide) = View wide
 branchShape (fixed n) = Fixed n
 branchShape Branch.map = Map
 
+-- of any node: a leaf's shape goes by the layout of its pile
 abbrev pub shapeOf : Setup → Node → Shape
 shapeOf st (branch f b cs) = branchShape b
 shapeOf st (leaf f k) = Leaf (meaning st k .layout) (isWide k)
 
+-- the cell of a node of the schema
 abbrev pub cellIn : Setup → (base : ℕ) (bytes : List ℕ) (node : ℕ) → Node → ℕ → Cell
 cellIn st base bytes n c slot = cellBy (shapeOf st c) base bytes n slot
 

@@ -11,6 +11,7 @@ use Rattle.bytes.specs.Numbers.{padded, numberIn, bitIn}
 use Rattle.schema.specs.Tree.{Node, Fields, Branch, LeafKind, branch, leaf, struct, list, fixed, _⊕_, fieldOf}
 use Rattle.leaf.specs.declared.layout.Layout.{Layout}
 use Rattle.leaf.specs.declared.layout.Layout.the-variants.{None, Bit, Text, Eight}
+use Rattle.batch.specs.Suited.{Lettered}
 use Rattle.batch.specs.Values.{Setup, Value, Item, meaning, mayBeNull}
 
 -- the array of one node: how many slots, how many of them null, and the buffers; a list-view has its sizes as data
@@ -30,6 +31,7 @@ abbrev pub isMarked : List ℕ → ℕ → Bool
 isMarked [] j = true
 isMarked (b ∷ bs) j = isSet (b ∷ bs) j
 
+-- the same of a column
 abbrev pub isValid : Column → ℕ → Bool
 isValid c j = isMarked (c .validity) j
 
@@ -44,9 +46,11 @@ isWide LeafKind.boolean = false
 isWide LeafKind.null = false
 isWide LeafKind.custom = false
 
+-- how wide a text's offsets are
 abbrev pub textWidth : LeafKind → ℕ
 textWidth k = width (isWide k)
 
+-- offset j of a column
 abbrev pub offset : (width : ℕ) → Column → ℕ → ℕ
 offset w c j = numberIn w (c .offsets) j
 
@@ -165,6 +169,17 @@ module _ (st : Setup) (column : ℕ → Column) where
     pub FilledIn : Fields → Type 0
     FilledIn Fields.none = Unit {0}
     FilledIn (c ⊕ cs) = Filled c × FilledIn cs
+
+-- the texts of a column are UTF-8
+module _ (st : Setup) (column : ℕ → Column) where
+  abbrev mutual
+    pub Spelled : Node → Type 0
+    Spelled (branch f b cs) = SpelledIn cs
+    Spelled (leaf f k) = (j : ℕ) → j < column (f .number) .slots → Lettered k (valueIn st column (leaf f k) j)
+
+    pub SpelledIn : Fields → Type 0
+    SpelledIn Fields.none = Unit {0}
+    SpelledIn (c ⊕ cs) = Spelled c × SpelledIn cs
 
 -- a buffer begins at a multiple of 8, and (ours) zeros fill it up to the next
 pub record Placed (bytes : List ℕ) (place size : ℕ) : Type 0 where

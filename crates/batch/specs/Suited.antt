@@ -6,8 +6,9 @@ use mathlib.Core.Option.{Option, none, some}
 use Prim.Native.Nat.{ℕ}
 use lib.ListN.{length}
 use Rattle.std.specs.shelf.Lists.{All}
+use Rattle.std.specs.Text.{Utf8}
 use Rattle.bytes.specs.Lists.{isSome}
-use Rattle.schema.specs.Tree.{Node, Fields, Branch, branch, leaf, struct, list, fixed, _⊕_}
+use Rattle.schema.specs.Tree.{Node, Fields, Branch, LeafKind, branch, leaf, struct, list, fixed, _⊕_}
 use Rattle.leaf.specs.Bytes.{AreBytes}
 use Rattle.leaf.specs.Meaning.{fitting}
 use Rattle.leaf.specs.declared.layout.Layout.{Layout}
@@ -21,6 +22,13 @@ Present P (some x) = P x
 -- the bytes of a leaf fit its layout
 abbrev pub Fits : Layout → Option (List ℕ) → Type 0
 Fits l o = Present (λ bs. fitting l bs ≡ true) o
+
+-- the bytes of a text are UTF-8
+abbrev pub Lettered : LeafKind → Option (List ℕ) → Type 0
+Lettered (LeafKind.text wide) o = Present Utf8 o
+Lettered LeafKind.boolean o = Unit {0}
+Lettered LeafKind.null o = Unit {0}
+Lettered LeafKind.custom o = Unit {0}
 
 -- a row has as many items as its branch takes
 abbrev pub Counted : {A : Type 0} → Branch → List A → Type 0
@@ -58,6 +66,16 @@ abbrev mutual
   pub FullIn : (st : Setup) (cs : Fields) → Item cs → Type 0
   FullIn st Fields.none i = Unit {0}
   FullIn st (c ⊕ cs) i = Full st c (i .0) × FullIn st cs (i .1)
+
+-- what the texts of a value hold is UTF-8
+abbrev mutual
+  pub Worded : (c : Node) → Value c → Type 0
+  Worded (branch f b cs) o = Present (λ is. All (WordedItem cs) is) o
+  Worded (leaf f k) o = Lettered k o
+
+  pub WordedItem : (cs : Fields) → Item cs → Type 0
+  WordedItem Fields.none i = Unit {0}
+  WordedItem (c ⊕ cs) i = Worded c (i .0) × WordedItem cs (i .1)
 
 -- what the leaves of a value hold are bytes
 abbrev mutual

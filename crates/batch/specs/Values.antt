@@ -74,7 +74,7 @@ keepsNone Bit = false
 keepsNone Text = false
 keepsNone Eight = false
 
--- null or bytes are kept of an answer; a conflict or a misfit that is left on top of a pile is refused
+-- null or bytes are kept of an answer; a conflict that is left on top of a pile is a wrong kind (5), and a misfit is refused as such (11)
 abbrev pub kept : (node position : ℕ) → Answer → Got (Option (List ℕ))
 kept node p Answer.nothing = got none
 kept node p Answer.conflict = refuse (slip 5 node p)

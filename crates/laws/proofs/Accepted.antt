@@ -1,5 +1,5 @@
 -- What a walk that is accepted has read: a value at each position, and where their columns end.
-use mathlib.Core.Path.{_≡_, sym, ap, subst, _∙_}
+use mathlib.Core.Path.{_≡_, refl, sym, ap, subst, _∙_}
 use mathlib.Core.Bool.{Bool, true}
 use mathlib.Core.List.{List, map}
 use Prim.Native.Nat.{ℕ, _+_, _≤_}
@@ -19,6 +19,7 @@ use Rattle.laws.proofs.Fits.{walk-told}
 
 pub record Read (st : Setup) (t : TapeView) (free : ℕ) (c : Node) (force : Bool) (ps : List ℕ) (top end : ℕ) : Type 0 where
   pub rows : List (Value c)
+  pub worths : rows ≡ map (worth st t c force) ps
   pub are : each (value st t c force) ps ≡ got rows
   pub ends : end ≡ top + length (buffers (columns st c rows))
   pub within : end ≤ free
@@ -31,6 +32,7 @@ module _ (st : Setup) (t : TapeView) (null : NullFirst t) (free lent : ℕ) wher
       let w = held-got (subst (Holds (Walked (Small lent (length ps)) free top (columns st c vs))) e (walked st t null free lent c force ps top work)) in
       record {
         rows = vs;
+        worths = refl;
         are = each-got (value st t c force) (worth st t c force) (fits st t c force) (worth-is st t c force) ps fit;
         ends = w .is ∙ ap (λ n. top + n) (sym (length-buffers (columns st c vs)));
         within = w .within;

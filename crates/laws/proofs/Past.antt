@@ -28,7 +28,7 @@ use Rattle.batch.proofs.Whole.{map-take, means-at}
 use Rattle.std.proofs.shelf.Tests.{both-ways}
 use Rattle.batch.proofs.Tests.{all-false}
 use Rattle.laws.proofs.Space.{shelve-spaced}
-use Rattle.laws.proofs.Runs.{Sound, held-at, format-is, filled-all, aligned-is, sound-after, start-is, batch-is, cell-is, read-is, end-is, same-is, is-same, end-of-all, behind, page-long}
+use Rattle.laws.proofs.Runs.{Sound, held-at, format-is, filled-all, spelled-all, aligned-is, sound-after, start-is, batch-is, cell-is, read-is, end-is, same-is, is-same, end-of-all, behind, page-long}
 
 same-list : {A : Type 0} (d : A) (xs ys : List A) → length xs ≡ length ys → ((k : ℕ) → k < length xs → getD xs k d ≡ getD ys k d) → xs ≡ ys
 same-list d [] [] e h = refl
@@ -179,6 +179,7 @@ always-in-format st well small done left null i h =
       means = λ j g. rw is (row-is st past held told i j l g ∙ ap got (sym (means-at st well mine (held-at st well small held sound i l) j (hidden st (st .root)) (omega (arith, rows-are)))));
       lies = rw is (good .lies);
       filled = rw is (filled-all st well small held sound i l);
+      spelled = rw is (spelled-all st well small held sound i l);
       aligned = rw (start-is st well small held sound i (omega arith)) (aligned-is st well small held sound i (omega arith));
     }
 

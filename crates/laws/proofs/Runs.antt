@@ -15,7 +15,7 @@ use Rattle.schema.specs.Tree.{fieldOf, nodes, WellFormed}
 use Rattle.tape.specs.View.{TapeView, isPosition}
 use Rattle.batch.specs.Values.{NullFirst, Setup, Value, fits}
 use Rattle.slip.specs.Slips.{Got, refuse, got, slip, then, notThere}
-use Rattle.batch.specs.Format.{Filled}
+use Rattle.batch.specs.Format.{Filled, Spelled}
 use Rattle.batch.specs.Batch.{columns, wordIn, columnIn, bytesOf}
 use Rattle.laws.specs.Shelf.{Held, badPosition, walk, used, page, shelve, rowsOf}
 use Rattle.batch.specs.Cells
@@ -30,7 +30,8 @@ use Rattle.batch.proofs.Sized.{sized-value, all-mapped}
 use Rattle.laws.proofs.Walks.{Holds, stopped, holds, holds-then, holds-skip, Small, Walked, walked}
 use Rattle.batch.proofs.Columns.{length-columns}
 use Rattle.batch.specs.Laws.{Holdable, InFormat}
-use Rattle.batch.specs.Suited.{Sized, Full}
+use Rattle.batch.specs.Suited.{Sized, Full, Worded}
+use Rattle.batch.proofs.Spelled.{worded, batches-spelled}
 use Rattle.batch.proofs.Whole.{extent-is, both, count-is, cell-past, same-bytes, batches-in-format, batches-filled, whole-words}
 use Rattle.batch.proofs.Filled.{all-by, full-value}
 use Rattle.laws.proofs.Fits.{shelve-told, rows-are}
@@ -42,6 +43,7 @@ module _ (st : Setup) where
     pub sized : All (Sized st (st .root)) rows
     pub few : All (λ c. c .slots < 2 ^ 31) (columns st (st .root) rows)
     pub full : All (Full st (st .root)) rows
+    pub worded : All (Worded (st .root)) rows
     pub within : length (bytesOf st rows) ≤ st .size
 
   record Added (held : Held st) (rows : List (Value (st .root))) : Type 0 where
@@ -93,14 +95,14 @@ module _ (st : Setup) where
       (λ p e. full-value st t (st .root) force p (and-parts (isPosition t p) (fits st t (st .root) force p) e .1)) ps e
 
   pub sound-after : (held : Held st) (c : Call) → FromOpened c → Sound held → Sound (after st held c)
-  sound-after held (Shelve t ps lent) null s = go (shelve st held t ps lent) (shelve-told st held t ps lent) (added held t ps lent null (s .inside))
+  sound-after held (Shelve t ps lent) null s = go (shelve st held t ps lent) (shelve-told st held t ps lent) (added held t ps lent (null .first) (s .inside))
     where
       go : (m : Got ℕ) → Told (all (takes st t) ps) m → Holds (λ n. Added held (worths st t ps)) m
           → Sound (elim (then m (λ _. rowsOf st t ps)) [ refuse r ↦ held | got rows ↦ held ++ (rows ∷ []) ])
       go (refuse r) told h = s
       go (got n) told (holds a) =
           rw (rows-are st held t ps (told-got told))
-          (record { kept = all-append Kept held (worths st t ps ∷ []) (s .kept) (record { sized = a .sized; few = a .few; full = full-rows t ps (told-got told); within = omega (arith, a .fits) }, tt); inside = omega (arith, used-push st held (worths st t ps), a .fits) })
+          (record { kept = all-append Kept held (worths st t ps ∷ []) (s .kept) (record { sized = a .sized; few = a .few; full = full-rows t ps (told-got told); worded = all-mapped (Worded (st .root)) (worth st t (st .root) (fieldOf (st .root) .nullable)) (worded st t null (st .root) (fieldOf (st .root) .nullable)) ps; within = omega (arith, a .fits) }, tt); inside = omega (arith, used-push st held (worths st t ps), a .fits) })
   sound-after held Torn null s = s
   sound-after held (Cell i n slot) null s = s
   sound-after held Release null s =
@@ -186,6 +188,9 @@ module _ (st : Setup) where
 
       pub filled-all : (i : ℕ) → i < length held → Filled st (columnIn (bytesOf st (rowsIn st held i))) (st .root)
       filled-all i h = batches-filled st well (rowsIn st held i) (held-at i h) (kept-at i h .full)
+
+      pub spelled-all : (i : ℕ) → i < length held → Spelled st (columnIn (bytesOf st (rowsIn st held i))) (st .root)
+      spelled-all i h = batches-spelled st well (rowsIn st held i) (held-at i h) (kept-at i h .worded)
 
       pub aligned-is : (i : ℕ) → i ≤ length held → start st held i % 8 ≡ 0
       aligned-is zero h = refl

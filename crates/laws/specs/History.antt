@@ -9,10 +9,11 @@ use lib.ListN.{length, getD, take, drop, replicate}
 use Rattle.std.specs.shelf.Lists.{All}
 use Rattle.bytes.specs.Lists.{part, between, sum}
 use Rattle.schema.specs.Tree.{fieldOf, nodes, WellFormed}
+use Rattle.tape.specs.Opens.{Untorn}
 use Rattle.tape.specs.View.{TapeView}
 use Rattle.batch.specs.Values.{NullFirst, Setup, Value, value}
 use Rattle.slip.specs.Slips.{Got, refuse, got, slip, then, notThere, Refused, numberOf}
-use Rattle.batch.specs.Format.{valueIn, Filled}
+use Rattle.batch.specs.Format.{valueIn, Filled, Spelled}
 use Rattle.batch.specs.Laws.{LaidOut}
 use Rattle.batch.specs.Batch.{bytesOf, recordIn, columnIn, tookIn}
 use Rattle.laws.specs.Shelf.{Held, page, rowsOf}
@@ -26,10 +27,11 @@ use Rattle.laws.specs.Laws.{takes}
 abbrev pub Past : Type 0
 Past = List (TapeView × List ℕ)
 
--- what a batch was shelved from, and how many rows that makes
+-- what a batch was shelved from
 abbrev pub from : Past → ℕ → TapeView × List ℕ
 from past i = getD past i (record { elements = []; texts = []; offsets = [] }, [])
 
+-- how many rows that makes
 abbrev pub rows : Past → ℕ → ℕ
 rows past i = length (from past i .1)
 
@@ -51,9 +53,9 @@ Idle (Cell i n slot) (got r) = Unit {0}
 Idle Release (got r) = ⊥
 Idle Count (got r) = Unit {0}
 
--- every tape begins with Null
+-- every tape was opened
 abbrev pub FromOpened : Call → Type 0
-FromOpened (Shelve t ps lent) = NullFirst t
+FromOpened (Shelve t ps lent) = Untorn t
 FromOpened Torn = Unit {0}
 FromOpened (Cell i n slot) = Unit {0}
 FromOpened Release = Unit {0}
@@ -72,12 +74,13 @@ pub record Seen : Type 0 where
   pub reply : Call → Got Reply
   pub next : Call → List ℕ
 
--- 4 comes neither for the list nor for any of its positions alone
+-- full (4) comes neither for the list nor for any of its positions alone
 pub record SpaceEnough (now : Seen) (t : TapeView) (ps : List ℕ) (lent : ℕ) : Type 0 where
   pub whole : numberOf (now .reply (Shelve t ps lent)) ≡ 4 → ⊥
   pub alone : (i : ℕ) → i < length ps → numberOf (now .reply (Shelve t (getD ps i 0 ∷ []) lent)) ≡ 4 → ⊥
 
 module _ (st : Setup) where
+  -- what is seen of a shelf that holds these batches
   abbrev pub seen : Held st → Seen
   seen held = record { page = page st held; reply = answer st held; next = λ c. page st (after st held c) }
 
@@ -99,6 +102,7 @@ module _ (st : Setup) where
     startOn zero = 0
     startOn (suc i) = startOn i + extentAt (startOn i)
 
+    -- the bytes of one
     abbrev pub batchOn : ℕ → List ℕ
     batchOn i = part bytes (startOn i) (extentAt (startOn i))
 
@@ -132,6 +136,7 @@ module _ (st : Setup) where
       pub page : startOn (now .page) (length past) + length (bytesOf st own) ≤ st .size
       pub work : peak st t (st .root) (fieldOf (st .root) .nullable) ps ≤ lent
 
+    -- what holds of a shelf, by what is seen of it and by its past
     pub record Kept : Type 0 where
       -- two batches have equal bytes exactly where their rows are equal
       pub same-bytes : (i j : ℕ) → i < length past → j < length past → (batchOn (now .page) i ≡ batchOn (now .page) j) ↔ SameRows past i j
@@ -163,6 +168,7 @@ module _ (st : Setup) where
       pub means : (k : ℕ) → k < rows past i → row past i k ≡ got (valueIn st (columnIn (batchOn (now .page) i)) (st .root) k)
       pub lies : LaidOut st (batchOn (now .page) i)
       pub filled : Filled st (columnIn (batchOn (now .page) i)) (st .root)
+      pub spelled : Spelled st (columnIn (batchOn (now .page) i)) (st .root)
       -- ours: a batch begins at a multiple of 8
       pub aligned : startOn (now .page) i % 8 ≡ 0
 

@@ -23,5 +23,6 @@ pub record Asked (st : Setup) (t : TapeView) (f : Field) (p : ℕ) (is : Got (Op
   pub conflict : st .custom .answer (elementAt t p) ≡ Answer.conflict → is ≡ cond (st .settings .lenient) (got none) (refuse (slip 5 (f .number) p))
   pub layout : meaning st LeafKind.custom .layout ≡ st .custom .layout
 
+-- so it is at every position
 abbrev pub CustomAsked : Type 0
 CustomAsked = (st : Setup) (t : TapeView) (f : Field) (inForce : Bool) (p : ℕ) → Asked st t f p (value st t (leaf f LeafKind.custom) inForce p)

@@ -19,19 +19,20 @@ abbrev pub slotsOf : {A : Type 0} → Branch → Option (List A) → List (Optio
 slotsOf b none = replicate (hides b) none
 slotsOf b (some is) = map some is
 
--- space for a node's buffers on the page, and for its children's positions in the work list: the place behind the buffers
+-- space for a node's buffers on the page, and for its children's positions in the work list: the place behind the buffers, or full (4)
 abbrev pub room : (free lent number top work : ℕ) → Column → (positions : ℕ) → Got ℕ
 room free lent number top work c positions =
     cond (ltb free (top + sizeOf c) || ltb lent (work + positions)) (refuse (slip 4 number 0)) (got (top + sizeOf c))
 
 module _ (st : Setup) (t : TapeView) where
-  -- the lowest slot in which a child is null, where it may not be
+  -- the lowest slot in which a child is null, where it may not be, is a bare null (10)
   abbrev pub bareFrom : (c : Node) → Bool → ℕ → List (Option ℕ) → Got (Unit {0})
   bareFrom c inForce i [] = got tt
   bareFrom c inForce i (none ∷ ps) = bareFrom c inForce (i + 1) ps
   bareFrom c inForce i (some p ∷ ps) =
       cond (isNull c (value st t c inForce p)) (refuse (slip 10 (fieldOf c .number) i)) (bareFrom c inForce (i + 1) ps)
 
+  -- the children in order
   abbrev pub bare : Fields → Bool → List (Option (List ℕ)) → Got (Unit {0})
   bare Fields.none inForce os = got tt
   bare (c ⊕ cs) inForce os =
@@ -57,7 +58,7 @@ module _ (st : Setup) (t : TapeView) (free lent : ℕ) where
     walkIn (c ⊕ cs) inForce items top work =
         then (walk c (inForce || fieldOf c .nullable) (map first items) top work) (λ next. walkIn cs inForce (map rest items) next work)
 
--- the first that is no position
+-- the first that is no position is a bad position (3)
 abbrev pub badPosition : TapeView → ℕ → List ℕ → Got (Unit {0})
 badPosition t i [] = got tt
 badPosition t i (p ∷ ps) = cond (isPosition t p) (badPosition t (i + 1) ps) (refuse (slip 3 0 i))

@@ -1,5 +1,5 @@
 -- The values of a pile fit its layout, and are bytes.
-use mathlib.Core.Path.{_≡_, refl, subst}
+use mathlib.Core.Path.{_≡_, refl, sym, subst}
 use mathlib.Core.Bool.{Bool, true, false, cond}
 use mathlib.Core.List.{List, [], _∷_}
 use Prim.Native.Nat.{ℕ, zero, suc, _+_, _/_, _%_, _<_}
@@ -87,6 +87,9 @@ pile-fits s own LeafKind.custom e = lenient-fits (s .lenient) (checked own) e (t
 
 pub piles-fit : PilesFit
 piles-fit s own k e bs is = subst (Valued (λ bs. fitting (pile s own k .layout) bs ≡ true)) is (pile-fits s own k e)
+
+pub valued-by : (P : List ℕ → Type 0) (a : Answer) (bs : List ℕ) → a ≡ value bs → P bs → Valued P a
+valued-by P a bs e p = subst (Valued P) (sym e) p
 
 -- decimals are bytes
 digit-below : (n : ℕ) → glyph false (n % 10) < 256

@@ -62,17 +62,10 @@ fielded {rs} {ns} {i} {t} h e =
 pub readable-at : {rs ns : List ℕ} {root : Node} → Opens rs ns root → (i : ℕ) → i < recordCount rs → Readable rs ns i
 readable-at o i h = record { within = h; inside = held-written (held-at o i h) .named .inside }
 
-pub length-heads : (rs : List ℕ) (i k : ℕ) → length (headsFrom rs i k) ≡ k
-length-heads rs i zero = refl
-length-heads rs i (suc k) = ap suc (length-heads rs (endAt rs i) k)
-
 -- so many heads are written, and those that are left give the whole
 pub record Heading (rs : List ℕ) (first count : ℕ) (heads : List ℕ) (at place : ℕ) : Type 0 where
   pub long : length heads ≡ 64
   pub whole : take place heads ++ headsFrom rs at (count - place) ≡ headsFrom rs first count
-
-pub heading-none : (rs : List ℕ) (first count : ℕ) {heads : List ℕ} → length heads ≡ 64 → Heading rs first count heads first 0
-heading-none rs first count l = let e : count - 0 ≡ count = omega arith in record { long = l; whole = rw e refl }
 
 -- the next head stands where the last one ended
 pub heading-here : {rs : List ℕ} {first count : ℕ} {heads : List ℕ} {at place : ℕ} → place < count → count ≤ 64 → Heading rs first count heads at place → getD (headsFrom rs first count) place 0 ≡ at

@@ -9,6 +9,7 @@ abbrev pub mixed : ℕ → List ℕ → ℕ
 mixed h [] = h
 mixed h (b ∷ bs) = mixed (bitXor h b * 16777619 % 2 ^ 32) bs
 
+-- kept shut, so that no proof but that of the code looks inside
 unfoldable pub hashOf : List ℕ → ℕ
 hashOf bs = mixed 2166136261 bs % 128
 

@@ -12,10 +12,12 @@ pub record TableReady (t : Table) : Type 0 where
   pub scan : ScanReady (t .scan)
   pub keyed : Keyed (scanNames (t .scan)) (t .slots) (t .scan .count)
 
+-- the names of either kind
 abbrev pub indexNames : Index → List (List ℕ)
 indexNames (Few s) = scanNames s
 indexNames (Many t) = scanNames (t .scan)
 
+-- either kind was made as it must be
 abbrev pub IndexReady : Index → Type 0
 IndexReady (Few s) = ScanReady s
 IndexReady (Many t) = TableReady t

@@ -20,6 +20,7 @@ headsFrom rs i (suc k) = i ∷ headsFrom rs (endAt rs i) k
 abbrev pub scanNames : Scan → List (List ℕ)
 scanNames s = map (nameAt (s .records .now) (s .names .now)) (take (s .count) (s .heads))
 
+-- at most 64 names, and each can be read
 pub record ScanReady (s : Scan) : Type 0 where
   pub few : s .count ≤ 64
   pub long : length (s .heads) ≡ 64

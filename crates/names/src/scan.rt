@@ -8,7 +8,7 @@ ghost use Rattle.bytes.specs.Lists.{between};
 ghost use Rattle.schema.specs.Tree.{Node, childrenOf, names as namesIn};
 ghost use Rattle.schema.specs.Layout.{the, recordCount, letterAt, countAt, startAt, sizeAt, nameAt};
 ghost use Rattle.schema.specs.Opened.{Opened, NodeOf, recordsOf, sizeOf};
-ghost use Rattle.names.specs.Scans.{scanNames, ScanReady, Readable};
+ghost use Rattle.names.specs.Scans.{scanNames, ScanReady};
 use crate::NameIndex;
 use crate::same;
 use schema::Schema;

@@ -2,7 +2,7 @@
 use Prim.Native.Nat.{ℕ, zero, suc, _+_, _-_, _<_, _≤_}
 use mathlib.Core.Path.{_≡_, refl, sym, ap, _∙_, subst}
 use mathlib.Core.Bool.{Bool, true, false}
-use mathlib.Core.List.{List, [], _∷_, _++_, map as mapped}
+use mathlib.Core.List.{List, _∷_, _++_, map as mapped}
 use native.Mathlib.Omega.{arith}
 use native.Mathlib.Decide.{decLt}
 use lib.ListN.{length, getD, length-append}
@@ -11,7 +11,7 @@ use Rattle.std.specs.shelf.Lists.{All}
 use Rattle.std.proofs.shelf.Lists.{map-append, getD-append-left, getD-append-right}
 use Rattle.std.proofs.shelf.Elements.{all-append}
 use Rattle.bytes.specs.Lists.{between}
-use Rattle.schema.specs.Tree.{Branch, struct, list, fixed, map, Node, branch, leaf, Fields, _⊕_, fieldOf, childrenOf, nodes, nodesIn, nodeAt, Childed}
+use Rattle.schema.specs.Tree.{Node, branch, leaf, Fields, _⊕_, fieldOf, childrenOf, nodes, nodesIn, nodeAt, Childed}
 use Rattle.schema.specs.Layout.{recordCount, endAt}
 use Rattle.schema.specs.Held.{Limited, bit, Written, Held, HeldIn}
 use Rattle.schema.specs.Held.Held.{node}

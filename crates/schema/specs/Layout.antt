@@ -11,6 +11,7 @@ use Rattle.bytes.specs.Numbers.{leAt}
 abbrev pub the : String → ℕ
 the t = getD (codes t) 0 0
 
+-- how many whole records there are
 abbrev pub recordCount : List ℕ → ℕ
 recordCount rs = length rs / 16
 

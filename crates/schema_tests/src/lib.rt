@@ -1,8 +1,6 @@
 // Small schemas, opened and looked up.
 ghost use Prim.Native.Nat.{_≤_, _<_};
-ghost use mathlib.Core.Path.{_≡_};
-ghost use Rattle.schema.specs.Layout.{the, letterAt};
-ghost use Rattle.schema.specs.Opened.{Opened, recordsOf, sizeOf};
+ghost use Rattle.schema.specs.Opened.{Opened};
 
 #[cfg(test)]
 mod tests {

@@ -1,11 +1,10 @@
 -- What stands at each index of an opened tape.
 use Prim.Native.Nat.{ℕ, _+_, _-_, _<_, _≤_, zero, suc}
 use mathlib.Core.List.{List}
-use mathlib.Core.Path.{_≡_, refl, sym, _∙_, ap, subst}
+use mathlib.Core.Path.{_≡_, sym, subst}
 use mathlib.Core.Logic.{_⊎_, inl, inr, ⊎-elim}
 use native.Mathlib.Omega.{arith}
 use native.Mathlib.Decide.{decLt}
-use lib.ListN.{length}
 use Rattle.tape.specs.Layout.{letterAt, numberAt, elementCount, offsetCount}
 use Rattle.tape.specs.Grammar.{Value, Values, Pairs}
 use Rattle.tape.specs.Grammar.Leaf.{string, null}

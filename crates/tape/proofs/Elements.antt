@@ -1,11 +1,10 @@
 -- What a variant says of its element's letter and number.
-use Prim.Native.Nat.{ℕ, _^_}
+use Prim.Native.Nat.{ℕ}
 use mathlib.Core.Path.{_≡_, refl}
 use mathlib.Core.Logic.{_⊎_, inl, inr}
 use native.Mathlib.Omega.{arith}
 use lib.IntN.{ℤ}
 use Rattle.std.proofs.shelf.Ways.{tells}
-use Rattle.tape.specs.declared.element.TapeElement.{TapeElement}
 use Rattle.tape.specs.declared.element.TapeElement.the-variants.{StartObject, StartList, String, Number, I64}
 use Rattle.tape.specs.Elements.{tapeElement, tapeElementAt, letterOf, LetterLaw}
 use Rattle.tape.specs.Layout.{the, letterAt, offsetCount}

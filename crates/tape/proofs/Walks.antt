@@ -3,12 +3,11 @@ use Prim.Native.Nat.{ℕ, _+_, _-_, _%_, _<_, _≤_, zero, suc}
 use mathlib.Core.Bool.{Bool, true, _||_}
 use mathlib.Core.List.{List, [], _∷_}
 use mathlib.Core.Path.{_≡_, refl, sym, _∙_, ap, subst}
-use mathlib.Core.Logic.{_⊎_, inl, inr}
+use mathlib.Core.Logic.{inl, inr}
 use native.Mathlib.Omega.{arith}
-use lib.Dec.{eqb, ltb}
 use lib.ListN.{length, getD}
 use lib.ListN.{length-take, length-drop}
-use Rattle.std.proofs.shelf.Tests.{ltb-true, lt-ltb, le-ltb, eqb-true, eq-eqb, and-parts, and-from, cases-bool}
+use Rattle.std.proofs.shelf.Tests.{lt-ltb, le-ltb, eqb-true, eq-eqb, and-parts, and-from, cases-bool}
 use Rattle.std.proofs.shelf.Text.{utf8-between}
 use Rattle.std.proofs.shelf.Ways.{tells}
 use Rattle.bytes.specs.Lists.{all}
@@ -19,13 +18,13 @@ use Rattle.tape.specs.Grammar.Value.{leaf, i64, list, object}
 use Rattle.tape.specs.Grammar.Values.{none, more}
 use Rattle.tape.specs.Grammar.Pairs.{noPair, pair}
 use Rattle.tape.specs.Opens.{Untorn}
-use Rattle.tape.specs.View.{TapeView, isAt, textAt, elementAt, steps, entries, isPosition, null}
-use Rattle.tape.specs.Walk.{Steps, PairSteps, InTurn, Bracketed, Object, Held, onward, ListLaw, ObjectLaw, RowsLaw, NextLaw, FirstLaw, TextLaw}
+use Rattle.tape.specs.View.{TapeView, isAt, steps, entries, isPosition}
+use Rattle.tape.specs.Walk.{Steps, PairSteps, InTurn, Bracketed, Held, onward, ListLaw, ObjectLaw, RowsLaw, NextLaw, FirstLaw, TextLaw}
 use Rattle.tape.specs.Walk.Steps.{here, step}
 use Rattle.tape.specs.Walk.PairSteps.{there, turn}
 use Rattle.tape.proofs.Cover.{Covered, covered, text-within}
 use Rattle.tape.proofs.Cover.Covered.{starts, ends, second}
-use Rattle.tape.proofs.Reading.{leaf-facts, value-facts, value-within, value-forward, values-forward, pairs-forward, value-next, value-list, value-object, within}
+use Rattle.tape.proofs.Reading.{leaf-facts, value-facts, value-within, value-forward, value-next, value-list, value-object, within}
 
 -- p is not the second half of a 'j'
 abbrev NotSecond : List ℕ → ℕ → Type 0

@@ -13,19 +13,23 @@ use Rattle.bytes.specs.Numbers.{leAt}
 abbrev pub the : String → ℕ
 the t = getD (codes t) 0 0
 
+-- the letter of element i
 abbrev pub letterAt : List ℕ → ℕ → ℕ
 letterAt es i = getD es (8 * i) 0
 
+-- the number of element i
 abbrev pub numberAt : List ℕ → ℕ → ℕ
 numberAt es i = leAt 4 es (8 * i + 4)
 
+-- offset k
 abbrev pub offsetAt : List ℕ → ℕ → ℕ
 offsetAt os k = leAt 4 os (4 * k)
 
--- how many elements, and how many offsets
+-- how many elements there are
 abbrev pub elementCount : List ℕ → ℕ
 elementCount es = length es / 8
 
+-- how many offsets there are
 abbrev pub offsetCount : List ℕ → ℕ
 offsetCount os = length os / 4
 

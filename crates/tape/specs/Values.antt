@@ -4,6 +4,7 @@ use Rattle.tape.specs.View.{Elem, object, list, string, number, i64, i32, bool
 use Rattle.tape.specs.declared.element.Element.{Element}
 use Rattle.tape.specs.declared.element.Element.the-variants.{Object, List as ListOf, String, Number, I64, I32, True, False, Null}
 
+-- what an element of the code means
 abbrev pub elemOf : Element → Elem
 elemOf Object = object
 elemOf ListOf = list

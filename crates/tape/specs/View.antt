@@ -45,6 +45,7 @@ module _ (t : TapeView) where
   abbrev pub wordsAt : ℕ → List ℕ
   wordsAt i = textAt (numberAt (t .elements) i)
 
+  -- the value of element i, by its letter
   abbrev pub elementAt : ℕ → Elem
   elementAt i =
       cond (isAt (the "{") i) object (cond (isAt (the "[") i) list

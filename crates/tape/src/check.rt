@@ -1,6 +1,6 @@
 // Whether three byte slices are a tape.
 ghost use mathlib.Core.Path.{_≡_};
-ghost use Prim.Native.Nat.{ℕ, _+_, _%_, _<_, _≤_};
+ghost use Prim.Native.Nat.{ℕ, _+_, _%_, _<_};
 ghost use lib.ListN.{length};
 ghost use Rattle.std.specs.Orderings.{Decides};
 ghost use Rattle.tape.specs.Layout.{letterAt, numberAt, offsetAt, elementCount, offsetCount};

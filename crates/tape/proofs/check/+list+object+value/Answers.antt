@@ -1,8 +1,6 @@
-use mathlib.Core.Path.{_≡_, sym, _∙_}
+use mathlib.Core.Path.{sym, _∙_}
 use Prim.Native.Nat.{_+_}
 use native.Mathlib.Omega.{arith}
-use lib.ListN.{length}
-use Rattle.tape.specs.Layout.{letterAt, numberAt}
 use Rattle.tape.specs.Grammar.Leaf.{i32}
 use Rattle.tape.specs.Grammar.Value.{leaf, i64, list, object}
 use Rattle.tape.specs.Grammar.Values.{none, more}

@@ -1,5 +1,5 @@
 use Prim.Native.Nat.{_/_}
-use mathlib.Core.Path.{subst}
+use mathlib.Core.Path.{_≡_, subst}
 use native.Mathlib.Omega.{arith}
 use lib.ListN.{length}
 use Rattle.std.proofs.shelf.Tests.{eqb-true, eq-eqb}
@@ -20,8 +20,10 @@ loop-at-again c =
     ((λ k vs. c .loop-at .inv .0 k (more v vs)), (λ vs. values-step (c .loop-at-test .taken) v (c .loop-at .inv .1 vs)))
 
 pub returns : need.returns
-returns c =
-    let n = length (c .args .elements .now) / 8 in (
-      (λ e. c .loop-at .inv .0 n (subst (λ x. Values (c .args .elements .now) (c .args .offsets) 64 (c .loop-at .at) x) (eqb-true (c .loop-at .at) n e) none)),
-      (λ vs. eq-eqb (c .loop-at .at) n (omega (arith, values-forward (c .loop-at .inv .1 vs)))),
-    )
+returns c = (
+  (λ e.
+      let n = length (c .args .elements .now) / 8 in
+      let at-end : c .loop-at .at ≡ n = omega (arith, eqb-true _ _ e) in
+      c .loop-at .inv .0 n (subst (λ x. Values (c .args .elements .now) (c .args .offsets) 64 (c .loop-at .at) x) at-end none)),
+  (λ vs. eq-eqb _ _ (omega (arith, values-forward (c .loop-at .inv .1 vs)))),
+)

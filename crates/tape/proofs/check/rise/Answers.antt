@@ -1,14 +1,11 @@
 use Prim.Native.Nat.{ℕ, _+_, _<_, _≤_, zero, suc}
 use mathlib.Core.List.{List}
-use mathlib.Core.Path.{_≡_, subst, sym}
-use mathlib.Core.Bool.{Bool, true, false}
+use mathlib.Core.Path.{_≡_}
 use native.Mathlib.Omega.{arith}
 use native.Mathlib.Numerals.{add-one}
-use Rattle.std.proofs.shelf.Tests.{false≢true}
-use Rattle.std.specs.Orderings.{When}
-use Rattle.std.specs.Words.{Boundary}
 use Rattle.tape.specs.Layout.{offsetAt, offsetCount}
 use Rattle.tape.specs.Opens.{Rise}
+use Rattle.tape.proofs.Reading.{never}
 use Rattle.tape.proofs.check.rise.Needs as need
 use Rattle.tape.proofs.check.rise.Needs.{then-next-last·by·then-next-last, then-next-last·by·else-next-last·then-not-is-char-boundary}
 
@@ -19,13 +16,11 @@ falls ts os last (suc j) before start h f r =
     omega (arith, before j (add-one j))
 
 pub returns-then-next-last : need.returns-then-next-last
-returns-then-next-last c = (
-  (λ e. absurd (false≢true e)),
-  (λ r. absurd (elim (c .then-next-last .came) [
-    | then-next-last·by·then-next-last w ↦
-        falls (c .args .text .now) (c .args .offsets .now) (c .loop-k .last) (c .loop-k .k) (c .loop-k .inv .2) (c .loop-k .inv .3) (c .loop-k-test .taken) (omega arith) r
-    | then-next-last·by·else-next-last·then-not-is-char-boundary w ↦
-        let no-cut = rw (w .if-not-is-char-boundary .taken) at (w .is-char-boundary .ensures .cases) in
-        no-cut (rw (c .offset-next .ensures) (r .uncut (c .loop-k .k) (c .loop-k-test .taken)))
-  ])),
-)
+returns-then-next-last c =
+    never (λ r. elim (c .then-next-last .came) [
+      | then-next-last·by·then-next-last w ↦
+          falls (c .args .text .now) (c .args .offsets .now) (c .loop-k .last) (c .loop-k .k) (c .loop-k .inv .2) (c .loop-k .inv .3) (omega arith) (omega arith) r
+      | then-next-last·by·else-next-last·then-not-is-char-boundary w ↦
+          let no-cut = rw (w .if-not-is-char-boundary .taken) at (w .is-char-boundary .ensures .cases) in
+          no-cut (rw (c .offset-next .ensures) (r .uncut (c .loop-k .k) (omega arith)))
+    ])
