@@ -1,6 +1,6 @@
 -- The buffers of a leaf, row by row.
 use mathlib.Core.Path.{_≡_, refl, sym, ap, ap₂, _∙_}
-use mathlib.Core.Bool.{Bool, true, false, cond}
+use mathlib.Core.Bool.{Bool, false, cond}
 use mathlib.Core.List.{List, [], _∷_, _++_, map, append-assoc}
 use mathlib.Core.Option.{Option, none, some}
 use Prim.Native.Nat.{ℕ, _+_, _-_, _*_, _/_, _<_, _≤_}
@@ -10,7 +10,7 @@ use lib.ListN.{length, take, getD, replicate, length-map, length-append, length-
 use Rattle.std.proofs.shelf.Lists.{append-nil, take-more, take-all, take-map, map-append, replicate-append-replicate, length-take-le, getD-map}
 use Rattle.bytes.specs.Lists.{splice, joined, orElse, starts, running, sum}
 use Rattle.bytes.specs.Numbers.{le, padded, pad, numbers, packed, withBit}
-use Rattle.bytes.proofs.Pieces.{joined-append, length-joined, length-starts, length-running, sum-take-le, length-pad}
+use Rattle.bytes.proofs.Pieces.{joined-append, length-starts, length-running, sum-take-le, length-pad}
 use Rattle.bytes.proofs.Splices.{splice-nil}
 use Rattle.tape.specs.View.{TapeView}
 use Rattle.leaf.specs.Meaning.{Meaning, Answer, nothing, conflict, misfit, value, shown}

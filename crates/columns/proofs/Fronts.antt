@@ -2,18 +2,18 @@
 use mathlib.Core.Path.{_≡_, refl, sym, ap, _∙_}
 use mathlib.Core.Bool.{Bool, true, false, cond, _&&_}
 use mathlib.Core.List.{List, [], _∷_, _++_, map, append-assoc}
-use mathlib.Core.Option.{Option, none, some}
+use mathlib.Core.Option.{Option}
 use Prim.Native.Nat.{ℕ, zero, suc, _+_, _-_, _*_, _/_, _%_, _^_, _≤_, _<_}
 use native.Mathlib.Omega.{arith}
 use native.Mathlib.Nat.{mul-suc, mul-add, mul-zero}
 use lib.Bits.{bitOr}
-use lib.Dec.{eqb, ltb, eqb·suc-zero}
+use lib.Dec.{ltb, eqb·suc-zero}
 use lib.ListN.{length, getD, set, take, drop, replicate, length-append, length-map, length-replicate}
 use Rattle.std.proofs.shelf.Lists.{append-nil, take-at, drop-at, drop-drop, drop-append-le, drop-replicate, set-append-left, getD-append-left, getD-replicate, set-at, map-append, same-lists, replicate-append-replicate}
 use Rattle.std.proofs.shelf.Tests.{lt-ltb}
-use Rattle.bytes.specs.Lists.{splice, isSome, joined, sum, starts, running, part}
+use Rattle.bytes.specs.Lists.{splice, isSome, joined, sum, starts, running}
 use Rattle.bytes.specs.Numbers.{le, padded, pad, numbers, weighed, packed, withBit}
-use Rattle.bytes.proofs.Pieces.{length-le, length-pad, joined-append, length-starts}
+use Rattle.bytes.proofs.Pieces.{length-le, joined-append}
 use Rattle.bytes.proofs.Packs.{length-numbers, length-packed, packed-at}
 use Rattle.bytes.proofs.Bitmaps.{bit-set}
 use Rattle.batch.specs.Batch.{nulls, validity}

@@ -2,38 +2,37 @@
 use mathlib.Core.Path.{_≡_, refl, sym, ap, ap₂, subst, _∙_}
 use mathlib.Core.Bool.{Bool, true, false, cond}
 use mathlib.Core.List.{List, [], _∷_, _++_, map, append-assoc}
-use mathlib.Core.Option.{Option, none, some}
+use mathlib.Core.Option.{Option}
 use Prim.Native.Nat.{ℕ, _+_, _-_, _*_, _/_, _^_, _<_, _≤_, min}
 use native.Mathlib.Omega.{arith}
 use lib.Dec.{eqb, ltb}
-use lib.ListN.{length, take, drop, replicate, length-append, length-map, length-replicate}
+use lib.ListN.{length, take, drop, replicate, length-map, length-replicate}
 use borrow.Rule.Slice.PartMut.{putMid, postOf}
 use Rattle.std.specs.declared.result.Result.the-variants.{Ok}
 use Rattle.std.specs.shelf.Lists.{All}
-use Rattle.std.proofs.shelf.Lists.{append-nil, nil-from-length, take-at, drop-at, drop-all, drop-drop, drop-replicate, take-all, take-replicate, length-drop}
+use Rattle.std.proofs.shelf.Lists.{nil-from-length, take-at, drop-at, drop-all, drop-replicate, take-all, take-replicate, length-drop}
 use Rattle.std.proofs.shelf.Tests.{eqb-true, ltb-false, le-ltb}
-use Rattle.slip.specs.Slips.{Got, got, refuse, then, answerOf}
-use Rattle.bytes.specs.Lists.{isSome, joined, orElse, running, sum, part}
+use Rattle.slip.specs.Slips.{got, then, answerOf}
+use Rattle.bytes.specs.Lists.{isSome, joined, orElse, running, sum}
 use Rattle.bytes.specs.Numbers.{numbers, packed, pad, padded}
-use Rattle.bytes.proofs.Pieces.{length-even, length-pad, length-running}
+use Rattle.bytes.proofs.Pieces.{length-even, length-running}
 use Rattle.bytes.proofs.Packs.{length-numbers, length-packed}
 use Rattle.tape.specs.View.{TapeView, Elem, elementAt}
-use Rattle.leaf.specs.Meaning.{Meaning, Answer, nothing, conflict, misfit, value, shown, fitting, isBit}
+use Rattle.leaf.specs.Meaning.{Meaning, value, fitting, isBit}
 use Rattle.leaf.specs.declared.layout.Layout.{Layout}
 use Rattle.leaf.specs.declared.layout.Layout.the-variants.{None, Bit, Text, Eight}
 use Rattle.batch.specs.Format.{Column}
-use Rattle.batch.specs.Batch.{nulls, validity, sizes, column, leafColumn, sizeOf, recordOf, buffers}
+use Rattle.batch.specs.Batch.{nulls, validity, sizes, column, leafColumn, buffers}
 use Rattle.batch.proofs.Columns.{leaf-slots}
-use Rattle.columns.specs.Areas.{Place, Plans, space, written}
+use Rattle.columns.specs.Areas.{space, written}
 use Rattle.columns.specs.Entering.{answers, AllFit, LeafEntered}
-use Rattle.columns.specs.Leaves.{cellAt, cells, bitOf, Whole}
-use Rattle.columns.specs.Plans.{Totals, bytesOf}
+use Rattle.columns.specs.Leaves.{cells, bitOf, Whole}
+use Rattle.columns.specs.Plans.{Totals}
 use Rattle.columns.specs.declared.plan.Plan.{Plan}
 use Rattle.columns.specs.declared.scan.Seen.{Seen}
 use Rattle.columns.proofs.Begins.{bitBytes}
 use Rattle.columns.proofs.Filling.{wide-cell, texts-long}
 use Rattle.columns.proofs.Fronts.{bits-long, marks-all}
-use Rattle.columns.proofs.Places.{column-written, blank-behind, space-there, totals-exact}
 
 abbrev Cell : Type 0
 Cell = Option (List ℕ)

@@ -2,7 +2,7 @@
 use mathlib.Core.Path.{_≡_, refl, sym, ap, ap₂, _∙_}
 use mathlib.Core.Bool.{Bool, true, false, cond, _||_}
 use mathlib.Core.List.{List, [], _∷_, _++_}
-use Prim.Native.Nat.{ℕ, _+_, _-_, _*_, _^_, _≤_, _<_, min}
+use Prim.Native.Nat.{ℕ, _+_, _-_, _*_, _^_, _≤_}
 use native.Mathlib.Omega.{arith}
 use lib.Dec.{ltb}
 use lib.ListN.{length, take, drop, replicate}
@@ -10,7 +10,7 @@ use borrow.Rule.Slice.PartMut.{putMid}
 use Rattle.std.specs.declared.result.Result.the-variants.{Ok}
 use Rattle.std.proofs.shelf.Lists.{append-nil, take-replicate, drop-drop, drop-at, length-append, length-take-le, append-assoc}
 use Rattle.std.proofs.shelf.Tests.{ltb-false}
-use Rattle.slip.specs.Slips.{slip, Got, refuse, got, answerOf}
+use Rattle.slip.specs.Slips.{slip, refuse, got, answerOf}
 use Rattle.bytes.specs.Lists.{splice, part}
 use Rattle.bytes.proofs.Splices.{splice-part}
 use Rattle.batch.specs.Format.{Column}

@@ -1,6 +1,6 @@
 -- The rows of a leaf, read one after another.
 use mathlib.Core.Path.{_≡_, refl, sym, ap, _∙_}
-use mathlib.Core.List.{List, [], _∷_, _++_, append-assoc}
+use mathlib.Core.List.{List, [], _∷_, _++_}
 use mathlib.Core.Option.{Option, none, some}
 use Prim.Native.Nat.{ℕ, _+_, _<_, _≤_, min}
 use native.Mathlib.Omega.{arith}
@@ -14,7 +14,6 @@ use Rattle.leaf.specs.Replies.{replyOf}
 use Rattle.leaf.specs.declared.layout.Reply.the-variants.{Null, Conflict, Misfit, Value}
 use Rattle.batch.specs.Values.{kept}
 use Rattle.batch.specs.Batch.{nulls, sizes}
-use Rattle.slip.specs.Slips.{slip}
 use Rattle.columns.specs.Entering.{answers}
 use Rattle.columns.specs.Leaves.{cellAt, cells}
 
@@ -78,11 +77,6 @@ nulls-push (some x ∷ os) o = nulls-push os o
 pub sum-push : (ks : List ℕ) (k : ℕ) → sum (ks ++ (k ∷ [])) ≡ sum ks + k
 sum-push [] k = omega arith
 sum-push (j ∷ ks) k = omega (arith, sum-push ks k)
-
-pub nulls-le : {A : Type 0} (os : List (Option A)) → nulls os ≤ length os
-nulls-le [] = omega arith
-nulls-le (none ∷ os) = omega (arith, nulls-le os)
-nulls-le (some x ∷ os) = omega (arith, nulls-le os)
 
 -- the sizes of cells, one more
 pub sizes-push : (os : List (Option (List ℕ))) (o : Option (List ℕ)) → sum (sizes (os ++ (o ∷ []))) ≡ sum (sizes os) + length (orElse [] o)

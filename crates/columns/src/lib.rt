@@ -1,8 +1,10 @@
 // Columns, written into the free part of a page.
-pub mod cells;
-pub mod leaves;
+mod cells;
+mod leaves;
 pub mod offset;
 pub mod plan;
-pub mod scan;
+mod scan;
 pub mod shape;
 pub mod spans;
+
+pub use leaves::put_leaf;

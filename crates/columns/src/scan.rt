@@ -1,6 +1,4 @@
 // The rows of a leaf, read once before anything is written.
-ghost use Prim.Native.Nat.{_^_, _≤_};
-ghost use lib.ListN.{length};
 ghost use Rattle.tape.specs.Opens.{Opened, viewOf};
 ghost use Rattle.columns.specs.Leaves.{Positions, Scanned};
 use leaf::Leaf;

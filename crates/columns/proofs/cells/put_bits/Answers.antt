@@ -1,14 +1,13 @@
 use mathlib.Core.Path.{_≡_, sym, ap, _∙_}
-use mathlib.Core.Bool.{true, false, cond}
+use mathlib.Core.Bool.{false, cond}
 use mathlib.Core.List.{map}
-use Prim.Native.Nat.{_≤_, _<_}
 use native.Mathlib.Omega.{arith}
-use lib.ListN.{length, getD, length-replicate, replicate}
+use lib.ListN.{length, getD, length-replicate}
 use Prim.Native.Nat.{ℕ, _+_, _/_}
 use Rattle.bytes.specs.Numbers.{padded, withBit}
 use Rattle.tape.specs.Opens.{viewOf}
 use Rattle.leaf.specs.Meaning.{shown}
-use Rattle.columns.specs.Leaves.{cells, bitOf, cellAt}
+use Rattle.columns.specs.Leaves.{cells, bitOf}
 use Rattle.columns.proofs.Filling.{bits-start, bits-more, bits-end, bit-here, bits-many}
 use Rattle.columns.proofs.cells.put_bits.Needs as need
 use Rattle.columns.proofs.cells.put_bits.Needs.{then-bit-of, else-bit-of}

@@ -1,12 +1,10 @@
-use mathlib.Core.Path.{_≡_, sym, ap, _∙_}
-use Prim.Native.Nat.{ℕ, _+_, _*_, _≤_, _<_}
+use mathlib.Core.Path.{sym, ap, _∙_}
+use Prim.Native.Nat.{ℕ, _*_}
 use native.Mathlib.Omega.{arith}
-use lib.ListN.{length, getD, length-map, length-replicate}
+use lib.ListN.{length, length-map, length-replicate}
 use Rattle.tape.specs.Opens.{viewOf}
-use Rattle.tape.specs.View.{elementAt}
 use Rattle.tape.specs.Values.{elemOf}
 use Rattle.leaf.specs.Meaning.{shown}
-use Rattle.bytes.specs.Lists.{orElse, splice}
 use Rattle.columns.specs.Leaves.{cells, cellAt}
 use Rattle.columns.proofs.Filling.{cell-here, eights-start, eights-more, eights-end, wide-cell, thin-cell}
 use Rattle.columns.proofs.cells.put_eights.Needs as need

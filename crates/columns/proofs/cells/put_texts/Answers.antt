@@ -1,12 +1,11 @@
-use mathlib.Core.Path.{_≡_, sym, ap, _∙_}
-use mathlib.Core.List.{[]}
-use Prim.Native.Nat.{ℕ, _+_, _*_, _≤_, _<_}
+use mathlib.Core.Path.{sym, ap, _∙_}
+use Prim.Native.Nat.{ℕ, _+_, _*_}
 use native.Mathlib.Omega.{arith}
 use lib.ListN.{length, length-map}
 use Rattle.tape.specs.Opens.{viewOf}
 use Rattle.tape.specs.Values.{elemOf}
 use Rattle.leaf.specs.Meaning.{shown}
-use Rattle.bytes.specs.Lists.{orElse, splice}
+use Rattle.bytes.specs.Lists.{splice}
 use Rattle.bytes.specs.Numbers.{padded, le}
 use Rattle.columns.specs.Leaves.{cells, cellAt}
 use Rattle.columns.proofs.Filling.{cell-here, texts-start, texts-more, texts-end, texts-room, value-room, last-room}

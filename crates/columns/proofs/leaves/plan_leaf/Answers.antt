@@ -1,4 +1,4 @@
-use mathlib.Core.Path.{_≡_, sym, subst, _∙_}
+use mathlib.Core.Path.{sym, subst}
 use lib.ListN.{length-map}
 use Rattle.tape.specs.Opens.{viewOf}
 use Rattle.leaf.specs.declared.layout.Layout.{Layout}

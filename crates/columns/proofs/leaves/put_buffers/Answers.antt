@@ -1,9 +1,8 @@
 use mathlib.Core.Path.{_≡_, refl, sym, ap, ap₂, _∙_}
-use mathlib.Core.List.{List}
-use Prim.Native.Nat.{ℕ, _+_, _-_, _/_, _^_, _≤_, _<_}
+use Prim.Native.Nat.{ℕ, _+_, _-_, _/_, _≤_}
 use native.Mathlib.Omega.{arith}
 use borrow.Author.Needs.{needs}
-use lib.ListN.{length, take, length-map, length-replicate, replicate}
+use lib.ListN.{length, length-map, length-replicate, replicate}
 use Rattle.bytes.specs.Numbers.{padded}
 use Rattle.bytes.proofs.Pieces.{length-pad}
 use Rattle.tape.specs.Opens.{viewOf}

@@ -1,9 +1,9 @@
-use mathlib.Core.Path.{_≡_, sym, ap, _∙_}
-use Prim.Native.Nat.{ℕ, _+_, _-_, _≤_}
+use mathlib.Core.Path.{ap, _∙_}
+use Prim.Native.Nat.{ℕ, _-_}
 use native.Mathlib.Omega.{arith}
-use lib.ListN.{length, length-replicate, replicate}
+use lib.ListN.{length, length-replicate}
 use Rattle.tape.specs.Opens.{viewOf}
-use Rattle.batch.specs.Batch.{leafColumn, sizeOf}
+use Rattle.batch.specs.Batch.{leafColumn}
 use Rattle.columns.specs.Leaves.{cells}
 use Rattle.columns.specs.Plans.{bytesOf}
 use Rattle.columns.proofs.Begins.{plans-size}

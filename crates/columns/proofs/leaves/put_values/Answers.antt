@@ -1,4 +1,4 @@
-use lib.ListN.{length, length-map}
+use lib.ListN.{length-map}
 use Rattle.tape.specs.Opens.{viewOf}
 use Rattle.columns.specs.Leaves.{cells, cellAt}
 use Rattle.columns.proofs.LeafColumns.{fit-one, fit-eight, whole-cells, blank-bit, blank-text, blank-eight}

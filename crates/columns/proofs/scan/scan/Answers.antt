@@ -1,10 +1,9 @@
-use mathlib.Core.Path.{_≡_, sym, ap, _∙_}
+use mathlib.Core.Path.{ap, _∙_}
 use lib.ListN.{getD}
 use Rattle.tape.specs.Opens.{viewOf}
-use Rattle.tape.specs.View.{elementAt}
 use Rattle.batch.specs.Values.{kept}
 use Rattle.leaf.specs.Replies.{replyOf}
-use Rattle.columns.proofs.Scanning.{Scanning, next-null, next-value, broken, scanned, conflict-from, misfit-from}
+use Rattle.columns.proofs.Scanning.{next-null, next-value, broken, scanned, conflict-from, misfit-from}
 use Rattle.columns.proofs.scan.scan.Needs as need
 use Rattle.columns.proofs.scan.scan.Needs.{in-Null, in-Value}
 
