@@ -26,7 +26,7 @@ fn bit_of<L: Leaf>(leaf: &L, e: Element, valid: bool) -> bool
     ensures { λ r. ⌜ r ≡ bitOf valid (shown (L·Leaf .meaning (now (leaf .entry)) .answer (elemOf (e .entry)))) ⌝ }
 {
     match leaf.answer(e) {
-        Reply::Value(n) => {
+        Reply::Value(_) => {
             if valid {
                 return true;
             }

@@ -21,7 +21,7 @@ pub fn scan<L: Leaf>(leaf: &L, tape: Tape<'_>, node: usize, rows: &[u32]) -> Res
 {
     let mut nulls = 0;
     let mut bytes = 0usize;
-    for (i, p) in rows.iter().enumerate() {
+    for p in rows {
         match leaf.answer(tape.element(*p)) {
             Reply::Null => nulls += 1,
             Reply::Conflict => return Err(Fault::WrongKind { node, position: *p }),
