@@ -1,1 +1,3 @@
 pub mod Entering
+pub mod Kinds
+pub mod Filling
