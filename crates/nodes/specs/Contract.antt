@@ -11,7 +11,7 @@ use Rattle.slip.specs.declared.Fault.{Fault}
 use Rattle.slip.specs.Slips.{answerOf, got}
 use Rattle.bytes.specs.Lists.{part}
 use Rattle.tape.specs.View.{TapeView, isPosition}
-use Rattle.schema.specs.Tree.{Node, Fields, childrenOf, many}
+use Rattle.schema.specs.Tree.{Node, childrenOf, many}
 use Rattle.schema.specs.Layout.{endAt}
 use Rattle.schema.specs.Held.{Held}
 use Rattle.schema.specs.declared.settings.Settings.{Settings}

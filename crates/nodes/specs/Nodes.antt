@@ -1,5 +1,5 @@
 -- A node by itself: what entering it gives, and what leaving it tests.
-use mathlib.Core.Bool.{Bool, false, _||_}
+use mathlib.Core.Bool.{Bool, false, cond, _||_}
 use mathlib.Core.List.{List, [], _∷_, _++_, map}
 use mathlib.Core.Option.{Option}
 use Prim.Native.Nat.{ℕ, _+_, _*_}
@@ -7,13 +7,13 @@ use lib.ListN.{length}
 use Rattle.bytes.specs.Lists.{joined, first, rest}
 use Rattle.slip.specs.Slips.{Got, refuse, got, then, each}
 use Rattle.tape.specs.View.{TapeView}
-use Rattle.schema.specs.Tree.{Node, Fields, Field, Branch, branch, leaf, _⊕_, fieldOf, many}
-use Rattle.batch.specs.Values.{Setup, meaning, below, leafAt}
+use Rattle.schema.specs.Tree.{Node, Fields, branch, leaf, _⊕_, fieldOf, many}
+use Rattle.batch.specs.Values.{Setup, meaning, mayBeNull, below, leafAt}
 use Rattle.batch.specs.Format.{Column, textWidth}
 use Rattle.batch.specs.Batch.{branchColumn, leafColumn}
 use Rattle.columns.specs.Areas.{space}
 use Rattle.rows.specs.Entering.{rowsAt, itemsOf}
-use Rattle.laws.specs.Shelf.{slotsOf, bare}
+use Rattle.laws.specs.Shelf.{slotsOf, bareFrom, bare}
 
 -- what was got, or nothing
 abbrev pub gotten : {A : Type 0} → Got (List A) → List A
@@ -42,6 +42,10 @@ module _ (st : Setup) (t : TapeView) where
       then (rowsAt (st .settings) t f b cs inForce ps) (λ rows. space free left (f .number) top (branchColumn b rows) (many cs * length (itemsOf b cs rows)))
   entering free left (leaf f k) inForce ps top =
       then (each (leafAt st t f k) ps) (λ os. space free left (f .number) top (leafColumn (meaning st k .layout) (textWidth k) os) 0)
+
+  -- a child is nowhere null, or may be
+  abbrev pub unbare : Node → Bool → List (Option ℕ) → Got (Unit {0})
+  unbare c inForce os = cond (mayBeNull st c) (got tt) (bareFrom st t c inForce 0 os)
 
   -- no child is null that may not be
   abbrev pub leaving : Node → Bool → List ℕ → Got (Unit {0})
