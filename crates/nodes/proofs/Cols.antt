@@ -116,7 +116,7 @@ module _ (st : Setup) (t : TapeView) where
     walk-unroll (branch f b cs) inForce ps left top w =
         branch-unroll (rowsAt (st .settings) t f b cs inForce ps) (branchColumn b) (λ rows. many cs * length (itemsOf b cs rows)) (f .number) left top w
         (λ rows next.
-          then (walkIn st t free (w + left) cs (below b inForce) (itemsOf b cs rows) next (w + many cs * length (itemsOf b cs rows))) (λ end.
-          then (bare st t cs (below b inForce) (joined (map (slotsOf b) rows))) (λ _. got end)))
+        then (walkIn st t free (w + left) cs (below b inForce) (itemsOf b cs rows) next (w + many cs * length (itemsOf b cs rows))) (λ end.
+        then (bare st t cs (below b inForce) (joined (map (slotsOf b) rows))) (λ _. got end)))
     walk-unroll (leaf f k) inForce ps left top w =
         leaf-unroll (each (leafAt st t f k) ps) (leafColumn (meaning st k .layout) (textWidth k)) (f .number) left top w

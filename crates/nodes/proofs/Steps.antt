@@ -101,11 +101,20 @@ module _ (s : Settings) (m : Meaning) (t : TapeView) (rs ns : List ℕ) (root : 
       let there = held-first p in
       let grows = held-written there .end in
       record {
-        child = c; more = cs; items = items; there = there; placed = held-rest p; left = omega (arith, e);
-        ends = omega (arith, n, grows, length-append (nodes c) (nodesIn cs)); grows = grows; after = a; above = b;
+        child = c;
+        more = cs;
+        items = items;
+        there = there;
+        placed = held-rest p;
+        left = omega (arith, e);
+        ends = omega (arith, n, grows, length-append (nodes c) (nodesIn cs));
+        grows = grows;
+        after = a;
+        above = b;
         own = ap (λ j. part mine (j * stride) stride) (omega arith) ∙ q 0 (omega arith) ∙ child-first items;
         parts = λ j h. ap (λ i. part mine (i * stride) stride) (omega arith) ∙ q (j + 1) (omega arith) ∙ child-rest j items;
-        outcome = o; content = w
+        outcome = o;
+        content = w;
       }
 
   pub first-left : k < kids → Middle st t rs ns inForce mine stride free deep node start kids B ds all area here k next → First
@@ -143,17 +152,23 @@ module _ (s : Settings) (m : Meaning) (t : TapeView) (rs ns : List ℕ) (root : 
         let size-is : endAt rs here ≡ here + length X = f .grows ∙ ap (λ n. here + n) (sym (length-cols st t c down ps)) in
         let low : 32 * (here + length X + length Y) ≤ next = omega (arith, size-is, length-cols-in st t cs inForce (map rest (f .items)), f .ends, f .above, apart) in
         let wrote : to ≡ written area here next X =
-            a .content root size c (f .there) ∙ ap (λ b. written area here next (cols st t c b qs)) is-forced ∙ ap (λ q. written area here next (cols st t c down q)) (same ∙ f .own) in
+        a .content root size c (f .there) ∙ ap (λ b. written area here next (cols st t c b qs)) is-forced ∙ ap (λ q. written area here next (cols st t c down q)) (same ∙ f .own) in
         record {
-          others = cs; items = map rest (f .items); placed = f .placed; left = omega (arith, f .left); ends = f .ends;
-          after = omega (arith, f .after, f .grows); above = omega (arith, f .above, ended .0); parts = f .parts;
+          others = cs;
+          items = map rest (f .items);
+          placed = f .placed;
+          left = omega (arith, f .left);
+          ends = f .ends;
+          after = omega (arith, f .after, f .grows);
+          above = omega (arith, f .above, ended .0);
+          parts = f .parts;
           outcome = λ w. ap (λ g. then g (λ x. walkIn st t free (w + deep) cs inForce (map rest (f .items)) x w)) (went w) ∙ f .outcome w;
           content =
-            ap (λ h. written to h next′ Y) size-is
-            ∙ ap (λ n. written to (here + length X) n Y) (ended .0)
-            ∙ ap (λ A. written A (here + length X) (next + length (buffers X)) Y) wrote
-            ∙ written-append area here next X Y low within
-            ∙ f .content
+              ap (λ h. written to h next′ Y) size-is
+              ∙ ap (λ n. written to (here + length X) n Y) (ended .0)
+              ∙ ap (λ A. written A (here + length X) (next + length (buffers X)) Y) wrote
+              ∙ written-append area here next X Y low within
+              ∙ f .content;
         }
 
   last-of :
@@ -173,8 +188,8 @@ module _ (st : Setup) (t : TapeView) (free : ℕ) (T : Node) (inForce : Bool) (p
   pub never-entered : (y : Fault) → refuse (slipOf y) ≡ entering st t free left T inForce ps top → (w : ℕ) → refuse (slipOf y) ≡ walk st t free (w + left) T inForce ps top w
   never-entered y e w =
       ap (λ g. then g (λ next.
-        then (walkIn st t free (w + left) (childrenOf T) (belowOf T inForce) (itemsIn st t T inForce ps) next (w + many (childrenOf T) * length (itemsIn st t T inForce ps))) (λ end.
-        then (leaving st t T inForce ps) (λ _. got end)))) e
+      then (walkIn st t free (w + left) (childrenOf T) (belowOf T inForce) (itemsIn st t T inForce ps) next (w + many (childrenOf T) * length (itemsIn st t T inForce ps))) (λ end.
+      then (leaving st t T inForce ps) (λ _. got end)))) e
       ∙ sym (walk-unroll st t free T inForce ps left top w)
 
   pub entered :
@@ -188,7 +203,7 @@ module _ (st : Setup) (t : TapeView) (free : ℕ) (T : Node) (inForce : Bool) (p
       let lent : w + left ≡ (w + more) + deep = omega (arith, d) in
       walk-unroll st t free T inForce ps left top w
       ∙ sym (ap (λ g. then g (λ next.
-          then (walkIn st t free (w + left) cs (belowOf T inForce) items next (w + more)) (λ end. then (leaving st t T inForce ps) (λ _. got end)))) e)
+      then (walkIn st t free (w + left) cs (belowOf T inForce) items next (w + more)) (λ end. then (leaving st t T inForce ps) (λ _. got end)))) e)
       ∙ ap (λ l. then (walkIn st t free l cs (belowOf T inForce) items next (w + more)) (λ end. then (leaving st t T inForce ps) (λ _. got end))) lent
       ∙ ap (λ g. then g (λ end. then (leaving st t T inForce ps) (λ _. got end))) (is (w + more))
 

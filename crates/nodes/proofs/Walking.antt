@@ -93,7 +93,7 @@ module _ (s : Settings) (m : Meaning) (t : TapeView) (rs ns : List ℕ) (node : 
         outcome = λ root size T h w. ap (λ q. answerOf (endsAt s m t rs ns node inForce ps top q)) e ∙ never-entered (setupOf s m root size) t (length A) T inForce ps (length work) top z (o .outcome root size T h) w;
         content = refused-made r z _ e;
         blank = subst (λ b. Blank b top) (sym same) (pre .blank);
-        within = subst (λ b. top ≤ length b) (sym same) (pre .within)
+        within = subst (λ b. top ≤ length b) (sym same) (pre .within);
       }
 
   module _ (B lent : List ℕ) (e : Entered) (o : Enters s m t rs ns node inForce ps top A B work lent (Ok e)) (long : length B ≡ length A) (lent-long : length lent ≡ length work) where
@@ -127,15 +127,22 @@ module _ (s : Settings) (m : Meaning) (t : TapeView) (rs ns : List ℕ) (node : 
     begun mine deeper split front = λ root size T h.
         let g = o .content root size T h in
         record {
-          others = childrenOf T; items = itemsIn (setupOf s m root size) t T inForce ps; placed = held-children h; left = omega (arith, g .kids); ends = refl; after = omega arith; above = omega arith;
+          others = childrenOf T;
+          items = itemsIn (setupOf s m root size) t T inForce ps;
+          placed = held-children h;
+          left = omega (arith, g .kids);
+          ends = refl;
+          after = omega arith;
+          above = omega arith;
           parts = λ j l.
-            let z : 0 + j ≡ j = omega arith in
-            let fit = row-within j (e .kids) (e .stride) (omega (arith, g .kids)) in
-            ap (λ i. part mine (i * e .stride) (e .stride)) z
-            ∙ sym (part-front mine deeper (j * e .stride) (e .stride) (omega (arith, fit, front)))
-            ∙ ap (λ xs. part xs (j * e .stride) (e .stride)) (sym split)
-            ∙ g .parts j l;
-          outcome = λ w. refl; content = refl
+              let z : 0 + j ≡ j = omega arith in
+              let fit = row-within j (e .kids) (e .stride) (omega (arith, g .kids)) in
+              ap (λ i. part mine (i * e .stride) (e .stride)) z
+              ∙ sym (part-front mine deeper (j * e .stride) (e .stride) (omega (arith, fit, front)))
+              ∙ ap (λ xs. part xs (j * e .stride) (e .stride)) (sym split)
+              ∙ g .parts j l;
+          outcome = λ w. refl;
+          content = refl;
         }
 
     module _ (mine deeper : List ℕ) (split : lent ≡ mine ++ deeper) (front : length mine ≡ e .kids * e .stride) where
@@ -177,18 +184,18 @@ module _ (s : Settings) (m : Meaning) (t : TapeView) (rs ns : List ℕ) (node : 
             let fit = row-within k (e .kids) (e .stride) k-in in
             let is = row-part mine k (e .stride) in
             let size : length (part mine (k * e .stride) (e .stride)) ≡ e .stride =
-                length-take-le (e .stride) (drop (k * e .stride) mine) (omega (arith, length-drop (k * e .stride) mine, fit, front)) in
+            length-take-le (e .stride) (drop (k * e .stride) mine) (omega (arith, length-drop (k * e .stride) mine, fit, front)) in
             record {
               formed = child-is;
               positions = λ i l.
-                let l′ : i < e .stride = omega (arith, ap length is, size) in
-                ap (isPosition t) (ap (λ xs. getD xs i 0) is ∙ getD-take (e .stride) (drop (k * e .stride) mine) i 0 l′ ∙ getD-drop (k * e .stride) mine i 0) ∙ mine-at (k * e .stride + i) (omega (arith, fit));
+                  let l′ : i < e .stride = omega (arith, ap length is, size) in
+                  ap (isPosition t) (ap (λ xs. getD xs i 0) is ∙ getD-take (e .stride) (drop (k * e .stride) mine) i 0 l′ ∙ getD-drop (k * e .stride) mine i 0) ∙ mine-at (k * e .stride + i) (omega (arith, fit));
               few = omega (arith, ap length is, size, fit, front, mine-few);
               lent = omega (arith, same, deeper-few);
               apart = omega (arith, f .ends, f .above, end-is T₀ h₀, pre .apart, above);
               within = within;
               page = omega (arith, long′, long, pre .page);
-              blank = blank
+              blank = blank;
             }
 
         module _ (forced : Bool) (to : List ℕ) (next′ : ℕ) (deep : ℕ) (deep-is : deep ≡ length deeper) (long′ : length area ≡ length B)
@@ -214,20 +221,20 @@ module _ (s : Settings) (m : Meaning) (t : TapeView) (rs ns : List ℕ) (node : 
               let is : r ≡ Err y = is′ ∙ ap Err z-is in
               record {
                 outcome = λ root size T h w.
-                  let st = setupOf s m root size in
-                  let g = o .content root size T h in
-                  let f = first-now root size T h in
-                  let more : length deeper + many (childrenOf T) * length (itemsIn st t T inForce ps) ≡ length work =
-                      ap (λ n. length deeper + n * length (itemsIn st t T inForce ps)) (sym (g .kids)) ∙ ap (λ n. length deeper + e .kids * n) (sym (g .stride)) ∙ back in
-                  let bad : (w : ℕ) → walkIn st t (length A) (w + length deeper) (childrenOf T) (belowOf T inForce) (itemsIn st t T inForce ps) (e .next) w ≡ refuse (slipOf y) = λ w.
-                      ap (λ n. walkIn st t n (w + length deeper) (childrenOf T) (belowOf T inForce) (itemsIn st t T inForce ps) (e .next) w) (sym long)
-                      ∙ broke s m t rs ns root size (belowOf T inForce) mine (e .stride) (length B) (length deeper) node (e .next) (e .kids) B (childrenOf T) (itemsIn st t T inForce ps) area here k next
-                        f qs to next′ forced long′ (row-part mine k (e .stride)) (is-forced T h (f .child) (f .there)) y (settled (Err y) a) w in
-                  ap (λ q. answerOf (endsAt s m t rs ns node inForce ps next′ q)) is
-                  ∙ sym (entered st t (length A) T inForce ps (length work) top (e .next) (length deeper) (o .outcome root size T h) more (refuse (slipOf y)) bad w);
+                    let st = setupOf s m root size in
+                    let g = o .content root size T h in
+                    let f = first-now root size T h in
+                    let more : length deeper + many (childrenOf T) * length (itemsIn st t T inForce ps) ≡ length work =
+                    ap (λ n. length deeper + n * length (itemsIn st t T inForce ps)) (sym (g .kids)) ∙ ap (λ n. length deeper + e .kids * n) (sym (g .stride)) ∙ back in
+                    let bad : (w : ℕ) → walkIn st t (length A) (w + length deeper) (childrenOf T) (belowOf T inForce) (itemsIn st t T inForce ps) (e .next) w ≡ refuse (slipOf y) = λ w.
+                    ap (λ n. walkIn st t n (w + length deeper) (childrenOf T) (belowOf T inForce) (itemsIn st t T inForce ps) (e .next) w) (sym long)
+                    ∙ broke s m t rs ns root size (belowOf T inForce) mine (e .stride) (length B) (length deeper) node (e .next) (e .kids) B (childrenOf T) (itemsIn st t T inForce ps) area here k next
+                    f qs to next′ forced long′ (row-part mine k (e .stride)) (is-forced T h (f .child) (f .there)) y (settled (Err y) a) w in
+                    ap (λ q. answerOf (endsAt s m t rs ns node inForce ps next′ q)) is
+                    ∙ sym (entered st t (length A) T inForce ps (length work) top (e .next) (length deeper) (o .outcome root size T h) more (refuse (slipOf y)) bad w);
                 content = refused-made r y _ is;
                 blank = a .blank;
-                within = a .within
+                within = a .within;
               }
 
       -- all children are walked
@@ -235,47 +242,52 @@ module _ (s : Settings) (m : Meaning) (t : TapeView) (rs ns : List ℕ) (node : 
         pub lies : Lying s m t rs ns node inForce ps (e .kids) (e .stride) mine
         lies =
             record {
-              formed = pre .formed; positions = pre .positions; within = mine-positions; few = mine-few;
+              formed = pre .formed;
+              positions = pre .positions;
+              within = mine-positions;
+              few = mine-few;
               all = λ root size T h.
-                let g = o .content root size T h in
-                record {
-                  accepted = (e .next, length A, length work, top, sym (o .outcome root size T h));
-                  kids-are = g .kids; stride-is = g .stride; size = front;
-                  parts = λ j l.
-                    let fit = row-within j (e .kids) (e .stride) l in
-                    sym (part-front mine deeper (j * e .stride) (e .stride) (omega (arith, fit, front)))
-                    ∙ ap (λ xs. part xs (j * e .stride) (e .stride)) (sym split)
-                    ∙ g .parts j (omega (arith, l, g .kids))
-                }
+                  let g = o .content root size T h in
+                  record {
+                    accepted = (e .next, length A, length work, top, sym (o .outcome root size T h));
+                    kids-are = g .kids;
+                    stride-is = g .stride;
+                    size = front;
+                    parts = λ j l.
+                        let fit = row-within j (e .kids) (e .stride) l in
+                        sym (part-front mine deeper (j * e .stride) (e .stride) (omega (arith, fit, front)))
+                        ∙ ap (λ xs. part xs (j * e .stride) (e .stride)) (sym split)
+                        ∙ g .parts j (omega (arith, l, g .kids));
+                  };
             }
 
         pub walked-all : (r : Result (Unit {0}) Fault) → Leaves s m t rs ns node inForce ps r → next ≤ length area → Blank area next
             → length deeper + e .kids * e .stride ≡ length work → Walked s m t rs ns node inForce ps (length work) A area top next r
         walked-all r leaves within blank back =
             let end = λ (root : Node) (size : ℕ) (T : Node) (h : Held rs ns node T).
-                last s m t rs ns root size (belowOf T inForce) mine (e .stride) (length B) (length deeper) node (e .next) (e .kids) B (childrenOf T) (itemsIn (setupOf s m root size) t T inForce ps) area here k next done (inside root size T h) in
+            last s m t rs ns root size (belowOf T inForce) mine (e .stride) (length B) (length deeper) node (e .next) (e .kids) B (childrenOf T) (itemsIn (setupOf s m root size) t T inForce ps) area here k next done (inside root size T h) in
             record {
               outcome = λ root size T h w.
-                let st = setupOf s m root size in
-                let g = o .content root size T h in
-                let more : length deeper + many (childrenOf T) * length (itemsIn st t T inForce ps) ≡ length work =
-                    ap (λ n. length deeper + n * length (itemsIn st t T inForce ps)) (sym (g .kids)) ∙ ap (λ n. length deeper + e .kids * n) (sym (g .stride)) ∙ back in
-                let fine : (w : ℕ) → walkIn st t (length A) (w + length deeper) (childrenOf T) (belowOf T inForce) (itemsIn st t T inForce ps) (e .next) w ≡ got next = λ w.
-                    ap (λ n. walkIn st t n (w + length deeper) (childrenOf T) (belowOf T inForce) (itemsIn st t T inForce ps) (e .next) w) (sym long) ∙ end root size T h .0 w in
-                left-as s m t rs ns node inForce ps next r (leaving st t T inForce ps) (leaves root size T h)
-                ∙ sym (entered st t (length A) T inForce ps (length work) top (e .next) (length deeper) (o .outcome root size T h) more (got next) fine w);
+                  let st = setupOf s m root size in
+                  let g = o .content root size T h in
+                  let more : length deeper + many (childrenOf T) * length (itemsIn st t T inForce ps) ≡ length work =
+                  ap (λ n. length deeper + n * length (itemsIn st t T inForce ps)) (sym (g .kids)) ∙ ap (λ n. length deeper + e .kids * n) (sym (g .stride)) ∙ back in
+                  let fine : (w : ℕ) → walkIn st t (length A) (w + length deeper) (childrenOf T) (belowOf T inForce) (itemsIn st t T inForce ps) (e .next) w ≡ got next = λ w.
+                  ap (λ n. walkIn st t n (w + length deeper) (childrenOf T) (belowOf T inForce) (itemsIn st t T inForce ps) (e .next) w) (sym long) ∙ end root size T h .0 w in
+                  left-as s m t rs ns node inForce ps next r (leaving st t T inForce ps) (leaves root size T h)
+                  ∙ sym (entered st t (length A) T inForce ps (length work) top (e .next) (length deeper) (o .outcome root size T h) more (got next) fine w);
               content = made-always r _ (λ root size T h.
-                let st = setupOf s m root size in
-                let c = ownOf st t T inForce ps in
-                let F = colsIn st t (childrenOf T) (belowOf T inForce) (itemsIn st t T inForce ps) in
-                let x = own-space root size T h in
-                let n : e .next ≡ top + length (buffers (c ∷ [])) = x .0 ∙ ap (λ k. top + k) (sym (length-buffer c)) in
-                let low : 32 * (node + 1 + length F) ≤ top = omega (arith, length-cols-in st t (childrenOf T) (belowOf T inForce) (itemsIn st t T inForce ps), end-is T h, pre .apart) in
-                end root size T h .1
-                ∙ ap (λ b. written b (node + 1) (e .next) F) (o .content root size T h .page)
-                ∙ ap (λ j. written (written A node top (c ∷ [])) (node + 1) j F) n
-                ∙ written-append A node top (c ∷ []) F low (pre .within)
-                ∙ ap (written A node top) (sym (cols-unroll st t T inForce ps)));
+                  let st = setupOf s m root size in
+                  let c = ownOf st t T inForce ps in
+                  let F = colsIn st t (childrenOf T) (belowOf T inForce) (itemsIn st t T inForce ps) in
+                  let x = own-space root size T h in
+                  let n : e .next ≡ top + length (buffers (c ∷ [])) = x .0 ∙ ap (λ k. top + k) (sym (length-buffer c)) in
+                  let low : 32 * (node + 1 + length F) ≤ top = omega (arith, length-cols-in st t (childrenOf T) (belowOf T inForce) (itemsIn st t T inForce ps), end-is T h, pre .apart) in
+                  end root size T h .1
+                  ∙ ap (λ b. written b (node + 1) (e .next) F) (o .content root size T h .page)
+                  ∙ ap (λ j. written (written A node top (c ∷ [])) (node + 1) j F) n
+                  ∙ written-append A node top (c ∷ []) F low (pre .within)
+                  ∙ ap (written A node top) (sym (cols-unroll st t T inForce ps)));
               blank = blank;
-              within = within
+              within = within;
             }
