@@ -2,7 +2,7 @@
 use mathlib.Core.Path.{_≡_, refl, sym, ap, ap₂, _∙_}
 use mathlib.Core.Bool.{Bool, true, false, cond, _||_}
 use mathlib.Core.List.{List, [], _∷_, _++_}
-use Prim.Native.Nat.{ℕ, _+_, _-_, _*_, _^_, _≤_, _<_, min}
+use Prim.Native.Nat.{ℕ, _+_, _-_, _*_, _^_, _≤_}
 use native.Mathlib.Omega.{arith}
 use lib.Dec.{ltb}
 use lib.ListN.{length, take, drop, replicate}
@@ -10,7 +10,7 @@ use borrow.Rule.Slice.PartMut.{putMid}
 use Rattle.std.specs.declared.result.Result.the-variants.{Ok}
 use Rattle.std.proofs.shelf.Lists.{append-nil, take-replicate, drop-drop, drop-at, length-append, length-take-le, append-assoc}
 use Rattle.std.proofs.shelf.Tests.{ltb-false}
-use Rattle.slip.specs.Slips.{slip, Got, refuse, got, answerOf}
+use Rattle.slip.specs.Slips.{slip, refuse, got, answerOf}
 use Rattle.bytes.specs.Lists.{splice, part}
 use Rattle.bytes.proofs.Splices.{splice-part}
 use Rattle.batch.specs.Format.{Column}
@@ -70,3 +70,14 @@ pub recordable : (p : Plan) (c : Column) (top free : ℕ) → Plans p c → top 
 recordable p c top free h room few slots nulls =
     let e : bytesOf p ≡ sizeOf c = rw (h .validity, h .offsets, h .data-size) in
     record { slots = omega arith; nulls = omega arith; buffers = omega (arith, e) }
+
+-- the slice of the buffers, once the record is written: zeros before, and the column after
+pub blank-after : (area area′ : List ℕ) (node top end size : ℕ) (c : Column) → Place area node top → area′ ≡ splice area (32 * node) (recordOf top c) → size ≡ sizeOf c → end ≡ top + sizeOf c
+    → top + sizeOf c ≤ length area → take (end - top) (drop top area′) ≡ replicate size 0
+blank-after area area′ node top end size c p put e f h =
+    ap₂ (λ n t. take n (drop top t)) (omega arith) put ∙ blank-behind area node top size c p (omega arith)
+
+pub column-after : (area area′ : List ℕ) (node top end : ℕ) (c : Column) (bs : List ℕ) → area′ ≡ splice area (32 * node) (recordOf top c) → bs ≡ buffers (c ∷ []) → end ≡ top + sizeOf c
+    → putMid top (end - top) area′ bs ≡ written area node top (c ∷ [])
+column-after area area′ node top end c bs put e f =
+    ap (λ t. putMid top (end - top) t bs) put ∙ column-written area node top (end - top) c bs e (omega arith)
