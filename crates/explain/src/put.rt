@@ -28,7 +28,7 @@ pub(crate) fn put_number(out: &mut [u8], at: usize, n: i64) -> usize
     at.saturating_add(size)
 }
 
-// Puts a count in decimals: the digits before the last, and the last.
+// Puts a count in decimals: the digits before the last, and the last. It may be larger than a signed number can be.
 pub(crate) fn put_count(out: &mut [u8], at: usize, n: usize) -> usize
     ensures { λ r. ⌜ Puts at (decimal n) (now (out .entry)) (now (out .exit)) r ⌝ }
 {
