@@ -42,11 +42,20 @@ mod tests {
     #[test]
     fn long_texts_are_cut_and_lines_kept(rt: LibcRuntime) -> Result<(), Fail> {
         let heap = rt.alloc();
-        let whole = Shown { text: "μ And", room: 5 };
+        let whole = Shown {
+            text: "μ And",
+            room: 5,
+        };
         check_eq(format!(heap, "{whole}")?.as_str(), "μ And")?;
-        let cut = Shown { text: "μ And", room: 4 };
+        let cut = Shown {
+            text: "μ And",
+            room: 4,
+        };
         check_eq(format!(heap, "{cut}")?.as_str(), "μ An..")?;
-        let lines = Shown { text: "a\nb\u{7f}", room: 9 };
+        let lines = Shown {
+            text: "a\nb\u{7f}",
+            room: 9,
+        };
         check_eq(format!(heap, "{lines}")?.as_str(), "a?b?")
     }
 }

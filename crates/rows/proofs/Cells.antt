@@ -1,14 +1,14 @@
 -- Positions written into a work list.
 use mathlib.Core.Path.{_≡_, refl, sym, ap, _∙_}
 use mathlib.Core.Bool.{true}
-use mathlib.Core.List.{List, [], _∷_, _++_, map}
+use mathlib.Core.List.{List, [], _∷_, _++_}
 use mathlib.Core.Logic.{_⊎_, inl, inr, ⊎-elim, _≢_}
 use Prim.Native.Nat.{ℕ, zero, suc, _+_, _-_, _*_, _/_, _%_, _≤_, _<_}
 use native.Mathlib.Nat.{mul-le-mul-right, add-mul, zero-mul, mod-lt, div-add-mod', div-lt-iff-lt-mul}
 use native.Mathlib.Omega.{arith}
 use borrow.Author.Needs.{needs}
 use lib.ListN.{length, getD, set, take, drop, replicate}
-use Rattle.std.proofs.shelf.Lists.{places, same-lists, length-take-le, getD-take, getD-set-same, getD-set-other, getD-append-left, getD-append-right, length-append, length-map, length-replicate, getD-map, getD-default, getD-drop, length-drop, drop-more}
+use Rattle.std.proofs.shelf.Lists.{places, same-lists, length-take-le, getD-take, getD-set-same, getD-set-other, getD-append-left, getD-append-right, length-append, length-map, getD-map, getD-default, getD-drop, length-drop, drop-more, length-set}
 use Rattle.std.proofs.shelf.Tests.{cases-lt, cases-eq, cases-order}
 use Rattle.bytes.specs.Lists.{part}
 use Rattle.tape.specs.View.{TapeView, isPosition}
@@ -17,7 +17,7 @@ use Rattle.rows.specs.Entering.{childAt}
 use Rattle.rows.specs.Filling.{cell, Filled, Positions, Spread}
 
 -- products
-further : (s i j : ℕ) → i < j → i * s + s ≤ j * s
+pub further : (s i j : ℕ) → i < j → i * s + s ≤ j * s
 further s i j h = omega (arith, mul-le-mul-right s (let l : i + 1 ≤ j = omega arith in l), add-mul i 1 s, zero-mul s)
 
 pub one-place : (s k m i j : ℕ) → i < s → j < s → k * s + i ≡ m * s + j → k ≡ m
@@ -32,10 +32,10 @@ pub inside : (s k n i : ℕ) → k < n → i < s → k * s + i < n * s
 inside s k n i h l = omega (arith, further s k n h)
 
 -- what is ahead in a list
-pub ahead : (es : List ℕ) (n x : ℕ) (rest : List ℕ) → drop n es ≡ x ∷ rest → (n < length es) × (getD es n 0 ≡ x) × (drop (n + 1) es ≡ rest)
-ahead es n x rest e =
+pub ahead : {A : Type 0} (es : List A) (n : ℕ) (x : A) (rest : List A) (d : A) → drop n es ≡ x ∷ rest → (n < length es) × (getD es n d ≡ x) × (drop (n + 1) es ≡ rest)
+ahead es n x rest d e =
     let h : n < length es = omega (arith, ap length e, length-drop n es) in
-    let m : drop n es ≡ getD es n 0 ∷ drop (n + 1) es = drop-more es n 0 h in
+    let m : drop n es ≡ getD es n d ∷ drop (n + 1) es = drop-more es n d h in
     (h, (cc), (cc))
 
 -- at even distances
@@ -134,3 +134,44 @@ module _ (kids stride : ℕ) (items : List (List ℕ)) (A C : List ℕ) (w : Fil
       let e : q ≡ k * stride + i = sym (div-add-mod' q stride) in
       ap (λ a. isPosition t (getD C a 0)) e ∙ ap (isPosition t) (from-first k i (div-lt-iff-lt-mul pos .1 h) l) ∙ ps i k)
       (cases-eq stride 0)
+
+-- two children
+module _ (stride at : ℕ) (ps : List (List ℕ)) (A B : List ℕ) (j x y : ℕ) where
+  abbrev put-both : List ℕ
+  put-both = set (set B (at + j) x) (stride + at + j) y
+
+  -- cells that neither write touches
+  untouched : (k i : ℕ) → k < 2 → i < at + j → at + j < stride → cell put-both stride k i ≡ cell B stride k i
+  untouched k i h l room =
+      let a : k * stride + i ≢ stride + at + j = λ e. ⊎-elim (λ z. omega (arith, ap (λ m. m * stride) z)) (λ z. omega (arith, ap (λ m. m * stride) (let o : k ≡ 1 = omega arith in o))) (cases-eq k 0) in
+      let b : k * stride + i ≢ at + j = λ e. ⊎-elim (λ z. omega (arith, ap (λ m. m * stride) z)) (λ z. omega (arith, ap (λ m. m * stride) (let o : k ≡ 1 = omega arith in o))) (cases-eq k 0) in
+      getD-set-other (set B (at + j) x) (stride + at + j) (k * stride + i) y 0 a ∙ getD-set-other B (at + j) (k * stride + i) x 0 b
+
+  both-there : at + j < stride → 2 * stride ≤ length B → (k : ℕ) → k < 2 → cell put-both stride k (at + j) ≡ getD (x ∷ (y ∷ [])) k 0
+  both-there room lent k h =
+      ⊎-elim
+      (λ z.
+      let p : k * stride + (at + j) ≡ at + j = omega (arith, ap (λ m. m * stride) z) in
+      ap (λ q. getD put-both q 0) p ∙ getD-set-other (set B (at + j) x) (stride + at + j) (at + j) y 0 (λ e. omega arith) ∙ getD-set-same B (at + j) x 0 (omega arith) ∙ ap (λ m. getD (x ∷ (y ∷ [])) m 0) (sym z))
+      (λ z.
+      let o : k ≡ 1 = omega arith in
+      let p : k * stride + (at + j) ≡ stride + at + j = omega (arith, ap (λ m. m * stride) o) in
+      ap (λ q. getD put-both q 0) p ∙ getD-set-same (set B (at + j) x) (stride + at + j) y 0 (omega (arith, length-set B (at + j) x)) ∙ ap (λ m. getD (x ∷ (y ∷ [])) m 0) (sym o))
+      (cases-eq k 0)
+
+  pub pair-more : Filled 2 stride at (take j ps) A B → j < length ps → getD ps j [] ≡ x ∷ (y ∷ []) → at + j < stride → 2 * stride ≤ length B → Filled 2 stride at (take (j + 1) ps) A put-both
+  pair-more w h e room lent =
+      let n : length (take j ps) ≡ j = length-take-le j ps (omega arith) in
+      let m : length (take (j + 1) ps) ≡ j + 1 = length-take-le (j + 1) ps (omega arith) in
+      record {
+        kept = λ k i a l. untouched k i a (omega arith) room ∙ w .kept k i a l;
+        put = λ k i a l. ⊎-elim
+            (λ q.
+            ap (λ i. cell put-both stride k (at + i)) q ∙ both-there room lent k a
+            ∙ ap (λ z. getD z k 0) (sym e ∙ sym (getD-take (j + 1) ps j [] (omega arith))) ∙ ap (λ i. getD (getD (take (j + 1) ps) i []) k 0) (sym q))
+            (λ q.
+            let less : i < j = omega arith in
+            untouched k (at + i) a (omega arith) room ∙ w .put k i a (omega arith)
+            ∙ ap (λ z. getD z k 0) (getD-take j ps i [] less ∙ sym (getD-take (j + 1) ps i [] (omega arith))))
+            (cases-eq i j);
+      }

@@ -5,3 +5,4 @@ pub mod Sizes
 pub mod Spanned
 pub mod Enters
 pub mod Alike
+pub mod Placing

@@ -2,28 +2,28 @@
 use mathlib.Core.Path.{_≡_, refl, sym, ap, _∙_, subst}
 use mathlib.Core.Bool.{Bool, true, false, cond}
 use mathlib.Core.List.{List, [], _∷_, _++_}
-use mathlib.Core.Option.{Option, none, some}
-use mathlib.Core.Logic.{_⊎_, inl, inr, ⊎-elim}
-use Prim.Native.Nat.{ℕ, zero, suc, _-_, _^_, _≤_}
+use mathlib.Core.Option.{Option, some}
+use mathlib.Core.Logic.{_⊎_, ⊎-elim}
+use Prim.Native.Nat.{ℕ, zero, suc, _+_, _-_, _/_, _^_, _<_, _≤_}
 use native.Mathlib.Omega.{arith}
-use lib.Dec.{eqb}
-use lib.ListN.{length, getD, replicate}
+use lib.ListN.{length, getD, drop, replicate}
 use Rattle.std.proofs.shelf.Lists.{getD-past, getD-map, length-map, getD-replicate, length-replicate, getD-append-left, getD-append-right}
-use Rattle.std.proofs.shelf.Tests.{cases-lt, cases-eq, eq-eqb, ne-eqb}
+use Rattle.std.proofs.shelf.Tests.{cases-lt, cases-eq, eq-eqb, ne-eqb, and-parts}
 use Rattle.bytes.specs.Lists.{all}
-use Rattle.slip.specs.Slips.{Slip, slip, Got, refuse, got, then, isGot, accepted}
-use Rattle.tape.specs.Layout.{the, elementCount}
+use Rattle.slip.specs.Slips.{Slip, slip, refuse, got, then, isGot, accepted}
+use Rattle.tape.specs.Layout.{the, numberAt, nextAt}
 use Rattle.tape.specs.Opens.{Untorn, viewOf}
 use Rattle.tape.specs.View.{TapeView, isAt, isPosition, entries}
-use Rattle.tape.specs.Walk.{Bracketed}
-use Rattle.tape.proofs.Walks.{list-law, object-law, first-law, all-at}
-use Rattle.schema.specs.Tree.{Branch, Fields, list, fixed}
-use Rattle.batch.specs.Rows.{singles}
+use Rattle.tape.specs.Walk.{Bracketed, Steps, PairSteps, onward}
+use Rattle.tape.proofs.Walks.{list-law, object-law, first-law, all-at, onward-pair}
+use Rattle.schema.specs.Tree.{Branch, Fields, fixed}
+use Rattle.batch.specs.Rows.{singles, pairs}
 use Rattle.batch.specs.Values.{taken, zeros}
 use Rattle.rows.specs.declared.Reading.{Reading}
 use Rattle.rows.specs.Kinds.{bracket, beginsAt, rowIn, rowSize, rowThere, itemsIn}
 use Rattle.rows.specs.Filling.{Filled, Positions}
-use Rattle.rows.proofs.Starts.{listed, row-there, row-null, row-refused, bracket-there, bracket-null}
+use Rattle.rows.proofs.Cells.{ahead}
+use Rattle.rows.proofs.Starts.{bracket-there}
 
 module _ (r : Reading) (b : Branch) (cs : Fields) (p : ℕ) where
   pub said-got : (o : Option (List (List ℕ))) → rowIn r b cs p ≡ got o → got (rowSize b cs o) ≡ then (rowIn r b cs p) (λ o. got (rowSize b cs o))
@@ -85,19 +85,23 @@ module _ (t : TapeView) (o : Untorn t) where
       one x zero e = e
       one x (suc k) e = zero-position
 
+  pub zeros-position : (m k : ℕ) → isPosition t (getD (replicate m 0) k 0) ≡ true
+  zeros-position m k =
+      ⊎-elim
+      (λ l. ap (isPosition t) (getD-replicate m k 0 0 l) ∙ zero-position)
+      (λ l. ap (isPosition t) (getD-past (replicate m 0) k 0 (omega (arith, length-replicate {A = ℕ} m 0))) ∙ zero-position)
+      (cases-lt k m)
+
   pub zeros-positions : (n m : ℕ) → Positions t (replicate n (replicate m 0))
   zeros-positions n m i k =
       ⊎-elim
-      (λ l. ap (λ a. isPosition t (getD a k 0)) (getD-replicate n i (replicate m 0) [] l) ∙ zeros k)
+      (λ l. ap (λ a. isPosition t (getD a k 0)) (getD-replicate n i (replicate m 0) [] l) ∙ zeros-position m k)
       (λ l. past-position (replicate n (replicate m 0)) i k (omega (arith, length-replicate n (replicate {A = ℕ} m 0))))
       (cases-lt i n)
-    where
-      zeros : (k : ℕ) → isPosition t (getD (replicate m 0) k 0) ≡ true
-      zeros k =
-          ⊎-elim
-          (λ l. ap (isPosition t) (getD-replicate m k 0 0 l) ∙ zero-position)
-          (λ l. ap (isPosition t) (getD-past (replicate m 0) k 0 (omega (arith, length-replicate {A = ℕ} m 0))) ∙ zero-position)
-          (cases-lt k m)
+
+  pub one-position : (item : List ℕ) → ((k : ℕ) → isPosition t (getD item k 0) ≡ true) → Positions t (item ∷ [])
+  one-position item h zero k = h k
+  one-position item h (suc i) k = zero-position
 
 -- items one after another
 pub append-positions : (t : TapeView) (xs ys : List (List ℕ)) → Positions t xs → Positions t ys → Positions t (xs ++ ys)
@@ -120,3 +124,41 @@ module _ (r : Reading) (cs : Fields) (p n : ℕ) where
 
   pub fixed-count : isAt (viewOf (r .tape)) (the "[") p ≡ true → isGot (rowIn r (fixed n) cs p) ≡ true → length es ≡ n
   fixed-count e g = ⊎-elim (λ m. m) (λ m. absurd (let f = ap isGot (fixed-wrong e m) in let z : _≡_ {A = ℕ} 0 1 = cc in omega arith)) (cases-eq (length es) n)
+
+-- the pairs of a map row
+pub length-pairs : (es : List ℕ) → length (pairs es) ≡ length es / 2
+length-pairs [] = refl
+length-pairs (k ∷ []) = refl
+length-pairs (k ∷ (v ∷ es)) = omega (arith, length-pairs es)
+
+pub pairs-positions : (t : TapeView) → Untorn t → (es : List ℕ) → all (isPosition t) es ≡ true → Positions t (pairs es)
+pairs-positions t o [] h i k = zero-position t o
+pairs-positions t o (a ∷ []) h i k = zero-position t o
+pairs-positions t o (a ∷ (b ∷ es)) h zero zero = and-parts (isPosition t a) _ h .0
+pairs-positions t o (a ∷ (b ∷ es)) h zero (suc zero) = and-parts (isPosition t b) _ (and-parts (isPosition t a) _ h .1) .0
+pairs-positions t o (a ∷ (b ∷ es)) h zero (suc (suc k)) = zero-position t o
+pairs-positions t o (a ∷ (b ∷ es)) h (suc i) k = pairs-positions t o es (and-parts (isPosition t b) _ (and-parts (isPosition t a) _ h .1) .1) i k
+
+-- the pair that is ahead
+pub pair-front : (t : TapeView) (es : List ℕ) (name end n : ℕ) → drop n (pairs es) ≡ pairs (onward t name end) → name < end → PairSteps t name end
+    → (n < length (pairs es)) × (getD (pairs es) n [] ≡ name ∷ ((name + 1) ∷ [])) × (drop (n + 1) (pairs es) ≡ pairs (onward t (nextAt (t .elements) (name + 1)) end))
+pair-front t es name end n e h s = ahead (pairs es) n (name ∷ ((name + 1) ∷ [])) _ [] (e ∙ ap pairs (onward-pair t h s))
+
+-- where the walk of a list's entries begins, and that of an object's pairs
+module _ (t : TapeView) (o : Untorn t) (p n : ℕ) (h : isPosition t p ≡ true) (e : n ≡ nextAt (t .elements) p) where
+  pub list-start : isAt t (the "[") p ≡ true → Steps t (p + 1) (n - 1) × (entries t p ≡ onward t (p + 1) (n - 1))
+  list-start l =
+      let b = list-law t o p h l in
+      let m : numberAt (t .elements) p ≡ n - 1 = omega (arith, e, b .next) in
+      (subst (λ q. Steps t (p + 1) q) m (b .way), b .all-steps ∙ ap (onward t (p + 1)) m)
+
+  pub object-start : isAt t (the "{") p ≡ true → PairSteps t (p + 1) (n - 1) × (entries t p ≡ onward t (p + 1) (n - 1))
+  object-start l =
+      let b = object-law t o p h l in
+      let m : numberAt (t .elements) p ≡ n - 1 = omega (arith, e, b .bracketed .next) in
+      (subst (λ q. PairSteps t (p + 1) q) m (b .pairs), b .bracketed .all-steps ∙ ap (onward t (p + 1)) m)
+
+-- the entries of either are positions
+pub entries-positions : (t : TapeView) → Untorn t → (p : ℕ) → isPosition t p ≡ true → (l : Bool) → isAt t (bracket l) p ≡ true → all (isPosition t) (entries t p) ≡ true
+entries-positions t o p h true e = list-law t o p h e .positions
+entries-positions t o p h false e = object-law t o p h e .bracketed .positions

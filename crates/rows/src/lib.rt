@@ -6,25 +6,33 @@ ghost use lib.Dec.{eqb};
 ghost use lib.ListN.{length, getD};
 ghost use Rattle.tape.specs.Opens.{Opened, viewOf};
 ghost use Rattle.tape.specs.View.{isPosition};
-ghost use Rattle.schema.specs.Tree.{Field, Fields, list, fixed, many};
+ghost use Rattle.schema.specs.Tree.{Branch, Field, Fields, list, fixed, many, names as namesOf};
 ghost use Rattle.batch.specs.Format.{width};
 ghost use Rattle.columns.specs.Areas.{Place};
 ghost use Rattle.rows.specs.Entering.{BranchEntered};
+ghost use Rattle.rows.specs.Structs.{fieldwise};
 use columns::offset::NarrowOffset;
 use columns::offset::OffsetSize;
 use lists::FixedRowKind;
 use lists::FixedRows;
 use lists::ListRowKind;
 use lists::ListRows;
+use maps::MapRowKind;
+use maps::MapRows;
+use names::NameIndex;
 use passes::enter;
 use schema::settings::Settings;
 use slip::Fault;
+use structs::StructRowKind;
+use structs::StructRows;
 use tape::Tape;
 
 mod entries;
 mod kind;
 mod lists;
+mod maps;
 mod passes;
+mod structs;
 
 // How the rows of a node are read.
 #[derive(Clone, Copy)]
@@ -108,4 +116,47 @@ pub fn enter_fixed(
 {
     let kind = FixedRows { count };
     enter::<FixedRows, i32>(&kind, reading, rows, work, area, top)
+}
+
+// Enters a map, whose rows take all their pairs, a null row none.
+pub fn enter_map(
+    reading: Reading<'_>,
+    rows: &[u32],
+    work: &mut [u32],
+    area: &mut [u8],
+    top: usize,
+) -> Result<Entered, Fault>
+    requires opened { ⌜ Opened (reading .tape) ⌝ }
+    requires positions { ⌜ ((i : ℕ) → i < length (now rows) → isPosition (viewOf (reading .tape)) (getD (now rows) i 0) ≡ true) ⌝ }
+    requires few { ⌜ length (now rows) ≤ 2 ^ 24 ⌝ }
+    requires lent { ⌜ length (now work) ≤ 2 ^ 24 ⌝ }
+    requires place { ⌜ Place (now area) (reading .node) top ⌝ }
+    ensures { λ r. ⌜ ((f : Field) (cs : Fields) → f .number ≡ reading .entry .node → many cs ≡ 2 → BranchEntered (reading .entry .settings) (viewOf (reading .entry .tape)) f Branch.map cs (reading .entry .«in_force») (now (rows .entry)) top (now (area .entry)) (now (area .exit)) (now (work .entry)) (now (work .exit)) r) ⌝ }
+{
+    let kind = MapRows;
+    enter::<MapRows, i32>(&kind, reading, rows, work, area, top)
+}
+
+// Enters a struct, whose rows give each field the value of the last pair with its name, or its entry under list rows.
+pub fn enter_struct<N: NameIndex>(
+    reading: Reading<'_>,
+    index: &N,
+    fields: usize,
+    rows: &[u32],
+    work: &mut [u32],
+    area: &mut [u8],
+    top: usize,
+) -> Result<Entered, Fault>
+    requires opened { ⌜ Opened (reading .tape) ⌝ }
+    requires positions { ⌜ ((i : ℕ) → i < length (now rows) → isPosition (viewOf (reading .tape)) (getD (now rows) i 0) ≡ true) ⌝ }
+    requires few { ⌜ length (now rows) ≤ 2 ^ 24 ⌝ }
+    requires lent { ⌜ length (now work) ≤ 2 ^ 24 ⌝ }
+    requires place { ⌜ Place (now area) (reading .node) top ⌝ }
+    requires ready { ⌜ N·NameIndex .ready (now index) ⌝ }
+    requires fields { ⌜ fields ≡ length (N·NameIndex .names (now index)) ⌝ }
+    requires limit { ⌜ fields ≤ 64 ⌝ }
+    ensures { λ r. ⌜ ((f : Field) (cs : Fields) → f .number ≡ reading .entry .node → namesOf cs ≡ N·NameIndex .names (now (index .entry)) → BranchEntered (reading .entry .settings) (viewOf (reading .entry .tape)) f fieldwise cs (reading .entry .«in_force») (now (rows .entry)) top (now (area .entry)) (now (area .exit)) (now (work .entry)) (now (work .exit)) r) ⌝ }
+{
+    let kind = StructRows { index, fields };
+    enter::<StructRows<'_, N>, i32>(&kind, reading, rows, work, area, top)
 }
