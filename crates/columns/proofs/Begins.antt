@@ -2,7 +2,6 @@
 use mathlib.Core.Path.{_≡_, refl, sym, ap, ap₂, _∙_}
 use mathlib.Core.Bool.{Bool, true, false, cond, _&&_}
 use mathlib.Core.List.{List, [], _∷_, _++_, append-assoc}
-use mathlib.Core.Option.{Option}
 use Prim.Native.Nat.{ℕ, _+_, _-_, _*_, _/_, _^_, _≤_, _<_}
 use native.Mathlib.Omega.{arith}
 use native.Mathlib.Nat.{mul-add, mul-le-mul-left}
@@ -12,7 +11,7 @@ use Rattle.std.proofs.shelf.Lists.{append-nil, map-append, replicate-append-rep
 use Rattle.bytes.specs.Lists.{splice, isSome, orElse, starts, running, sum}
 use Rattle.bytes.specs.Numbers.{le, padded, pad, numbers, withBit}
 use Rattle.bytes.proofs.Pieces.{length-pad, length-starts, length-running}
-use Rattle.bytes.proofs.Packs.{length-numbers, length-packed}
+use Rattle.bytes.proofs.Packs.{length-numbers}
 use Rattle.schema.specs.Tree.{Branch, struct, list, fixed}
 use Rattle.batch.specs.Format.{Column, width}
 use Rattle.batch.specs.Batch.{nulls, validity, column, sizes, branchColumn, sizeOf, buffers}

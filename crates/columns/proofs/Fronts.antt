@@ -2,18 +2,18 @@
 use mathlib.Core.Path.{_≡_, refl, sym, ap, _∙_}
 use mathlib.Core.Bool.{Bool, true, false, cond, _&&_}
 use mathlib.Core.List.{List, [], _∷_, _++_, map, append-assoc}
-use mathlib.Core.Option.{Option, none, some}
+use mathlib.Core.Option.{Option}
 use Prim.Native.Nat.{ℕ, zero, suc, _+_, _-_, _*_, _/_, _%_, _^_, _≤_, _<_}
 use native.Mathlib.Omega.{arith}
 use native.Mathlib.Nat.{mul-suc, mul-add, mul-zero}
 use lib.Bits.{bitOr}
-use lib.Dec.{eqb, ltb, eqb·suc-zero}
+use lib.Dec.{ltb, eqb·suc-zero}
 use lib.ListN.{length, getD, set, take, drop, replicate, length-append, length-map, length-replicate}
 use Rattle.std.proofs.shelf.Lists.{append-nil, take-at, drop-at, drop-drop, drop-append-le, drop-replicate, set-append-left, getD-append-left, getD-replicate, set-at, map-append, same-lists, replicate-append-replicate}
 use Rattle.std.proofs.shelf.Tests.{lt-ltb}
-use Rattle.bytes.specs.Lists.{splice, isSome, joined, sum, starts, running, part}
+use Rattle.bytes.specs.Lists.{splice, isSome, joined, sum, starts, running}
 use Rattle.bytes.specs.Numbers.{le, padded, pad, numbers, weighed, packed, withBit}
-use Rattle.bytes.proofs.Pieces.{length-le, length-pad, joined-append, length-starts}
+use Rattle.bytes.proofs.Pieces.{length-le, joined-append}
 use Rattle.bytes.proofs.Packs.{length-numbers, length-packed, packed-at}
 use Rattle.bytes.proofs.Bitmaps.{bit-set}
 use Rattle.batch.specs.Batch.{nulls, validity}
@@ -31,7 +31,7 @@ splice-zeros pre ys post n i e h =
     rw (take-at pre (replicate n 0 ++ post) i (sym e), behind)
 
 -- padding by a known length
-pad-by : (bs : List ℕ) (n : ℕ) → length bs ≡ n → pad bs ≡ bs ++ replicate (padded n - n) 0
+pub pad-by : (bs : List ℕ) (n : ℕ) → length bs ≡ n → pad bs ≡ bs ++ replicate (padded n - n) 0
 pad-by bs n e = ap (λ m. bs ++ replicate (padded m - m) 0) e
 
 pub pad-zeros : (n : ℕ) → pad (replicate n 0) ≡ replicate (padded n) 0
@@ -119,53 +119,71 @@ bits-long slots (suc n) os h =
     let l : length (map isSome os ++ replicate (slots - length os) false) ≡ slots = length-marks slots os h in
     rw (eqb·suc-zero n, lt-ltb 0 (suc n) (omega arith)) (length-packed (map isSome os ++ replicate (slots - length os) false) ∙ ap (λ k. (k + 7) / 8) l)
 
--- one row more
-module _ {A : Type 0} (slots : ℕ) (os : List (Option A)) (o : Option A) (h : length os < slots) where
-  abbrev before : List Bool
-  before = map isSome os ++ replicate (slots - length os) false
+-- bits, and false for those that are to come
+abbrev pub filled : (many : ℕ) → List Bool → List Bool
+filled n bs = bs ++ replicate (n - length bs) false
 
-  abbrev after : List Bool
-  after = map isSome (os ++ (o ∷ [])) ++ replicate (slots - length (os ++ (o ∷ []))) false
+pub length-filled : (n : ℕ) (bs : List Bool) → length bs ≤ n → length (filled n bs) ≡ n
+length-filled n bs h = length-append bs (replicate (n - length bs) false) ∙ omega (arith, length-replicate {A = Bool} (n - length bs) false)
 
-  -- the bits with that of the next row told apart
-  parted : before ≡ map isSome os ++ (false ∷ replicate (slots - (length os + 1)) false)
-  parted = let e : slots - length os ≡ suc (slots - (length os + 1)) = omega arith in ap (λ k. map isSome os ++ replicate k false) e
+-- one bit more
+module _ (n : ℕ) (bs : List Bool) (b : Bool) (h : length bs < n) where
+  -- the next bit told apart
+  parted : filled n bs ≡ bs ++ (false ∷ replicate (n - (length bs + 1)) false)
+  parted = let e : n - length bs ≡ suc (n - (length bs + 1)) = omega arith in ap (λ k. bs ++ replicate k false) e
 
-  joined-up : after ≡ map isSome os ++ (isSome o ∷ replicate (slots - (length os + 1)) false)
+  joined-up : filled n (bs ++ (b ∷ [])) ≡ bs ++ (b ∷ replicate (n - (length bs + 1)) false)
   joined-up =
-      ap (λ t. t ++ replicate (slots - length (os ++ (o ∷ []))) false) (map-append isSome os (o ∷ []))
-      ∙ append-assoc (map isSome os) (isSome o ∷ []) (replicate (slots - length (os ++ (o ∷ []))) false)
-      ∙ ap (λ k. map isSome os ++ (isSome o ∷ replicate (slots - k) false)) (length-append os (o ∷ []))
+      append-assoc bs (b ∷ []) (replicate (n - length (bs ++ (b ∷ []))) false)
+      ∙ ap (λ k. bs ++ (b ∷ replicate (n - k) false)) (length-append bs (b ∷ []))
 
-  marked : isSome o ≡ true → set before (length os) true ≡ after
+  marked : b ≡ true → set (filled n bs) (length bs) true ≡ filled n (bs ++ (b ∷ []))
   marked e =
-      ap (λ t. set t (length os) true) parted ∙ set-at (map isSome os) false (replicate (slots - (length os + 1)) false) true (length os) (length-map os isSome)
-      ∙ ap (λ b. map isSome os ++ (b ∷ replicate (slots - (length os + 1)) false)) (sym e) ∙ sym joined-up
+      ap (λ t. set t (length bs) true) parted ∙ set-at bs false (replicate (n - (length bs + 1)) false) true (length bs) refl
+      ∙ ap (λ x. bs ++ (x ∷ replicate (n - (length bs + 1)) false)) (sym e) ∙ sym joined-up
 
-  unmarked : isSome o ≡ false → before ≡ after
-  unmarked e = parted ∙ ap (λ b. map isSome os ++ (b ∷ replicate (slots - (length os + 1)) false)) (sym e) ∙ sym joined-up
+  unmarked : b ≡ false → filled n bs ≡ filled n (bs ++ (b ∷ []))
+  unmarked e = parted ∙ ap (λ x. bs ++ (x ∷ replicate (n - (length bs + 1)) false)) (sym e) ∙ sym joined-up
 
-  pub packed-next : (rest : List ℕ) (b : Bool) → isSome o ≡ b → cond b (withBit (pad (packed before) ++ rest) (length os)) (pad (packed before) ++ rest) ≡ pad (packed after) ++ rest
-  packed-next rest false e = ap (λ t. pad (packed t) ++ rest) (unmarked e)
-  packed-next rest true e =
-      let long : length before ≡ slots = length-marks slots os (omega arith) in
-      let long′ : length after ≡ slots = length-marks slots (os ++ (o ∷ [])) (omega (arith, length-append os (o ∷ []))) in
-      let n : ℕ = (slots + 7) / 8 in
-      let l : length (packed before) ≡ n = length-packed before ∙ ap (λ k. (k + 7) / 8) long in
-      let l′ : length (packed after) ≡ n = length-packed after ∙ ap (λ k. (k + 7) / 8) long′ in
-      let zs : List ℕ = replicate (padded n - n) 0 in
-      ap (λ t. withBit (t ++ rest) (length os)) (pad-by (packed before) n l)
-      ∙ ap (λ t. withBit t (length os)) (append-assoc (packed before) zs rest)
-      ∙ with-bit-front (packed before) (zs ++ rest) (length os) (omega (arith, l))
-      ∙ ap (λ t. t ++ (zs ++ rest)) (bit-set before (length os) (omega (arith, long)) ∙ ap packed (marked e))
-      ∙ sym (append-assoc (packed after) zs rest) ∙ ap (λ t. t ++ rest) (sym (pad-by (packed after) n l′))
+pub packed-next : (n : ℕ) (bs : List Bool) (b : Bool) → length bs < n → (rest : List ℕ)
+    → cond b (withBit (pad (packed (filled n bs)) ++ rest) (length bs)) (pad (packed (filled n bs)) ++ rest) ≡ pad (packed (filled n (bs ++ (b ∷ [])))) ++ rest
+packed-next n bs false h rest = ap (λ t. pad (packed t) ++ rest) (unmarked n bs false h refl)
+packed-next n bs true h rest =
+    let after = filled n (bs ++ (true ∷ [])) in
+    let long : length (filled n bs) ≡ n = length-filled n bs (omega arith) in
+    let long′ : length after ≡ n = length-filled n (bs ++ (true ∷ [])) (omega (arith, length-append bs (true ∷ []))) in
+    let k : ℕ = (n + 7) / 8 in
+    let l : length (packed (filled n bs)) ≡ k = length-packed (filled n bs) ∙ ap (λ i. (i + 7) / 8) long in
+    let l′ : length (packed after) ≡ k = length-packed after ∙ ap (λ i. (i + 7) / 8) long′ in
+    let zs : List ℕ = replicate (padded k - k) 0 in
+    ap (λ t. withBit (t ++ rest) (length bs)) (pad-by (packed (filled n bs)) k l)
+    ∙ ap (λ t. withBit t (length bs)) (append-assoc (packed (filled n bs)) zs rest)
+    ∙ with-bit-front (packed (filled n bs)) (zs ++ rest) (length bs) (omega (arith, l))
+    ∙ ap (λ t. t ++ (zs ++ rest)) (bit-set (filled n bs) (length bs) (omega (arith, long)) ∙ ap packed (marked n bs true h refl))
+    ∙ sym (append-assoc (packed after) zs rest) ∙ ap (λ t. t ++ rest) (sym (pad-by (packed after) k l′))
+
+-- one row more
+marks-is : {A : Type 0} (slots : ℕ) (os : List (Option A)) → map isSome os ++ replicate (slots - length os) false ≡ filled slots (map isSome os)
+marks-is slots os = ap (λ k. map isSome os ++ replicate (slots - k) false) (sym (length-map os isSome))
+
+marks-one : {A : Type 0} (slots : ℕ) (os : List (Option A)) (o : Option A) (rest : List ℕ) (b : Bool) → length os < slots → isSome o ≡ b
+    → cond b (withBit (pad (packed (map isSome os ++ replicate (slots - length os) false)) ++ rest) (length os)) (pad (packed (map isSome os ++ replicate (slots - length os) false)) ++ rest)
+    ≡ pad (packed (map isSome (os ++ (o ∷ [])) ++ replicate (slots - length (os ++ (o ∷ []))) false)) ++ rest
+marks-one slots os o rest b h e =
+    let l : length (map isSome os) ≡ length os = length-map os isSome in
+    let more : filled slots (map isSome os ++ (b ∷ [])) ≡ map isSome (os ++ (o ∷ [])) ++ replicate (slots - length (os ++ (o ∷ []))) false =
+    ap (λ x. filled slots (map isSome os ++ (x ∷ []))) (sym e) ∙ ap (filled slots) (sym (map-append isSome os (o ∷ []))) ∙ sym (marks-is slots (os ++ (o ∷ []))) in
+    ap (λ t. cond b (withBit (pad (packed t) ++ rest) (length os)) (pad (packed t) ++ rest)) (marks-is slots os)
+    ∙ ap (λ k. cond b (withBit (pad (packed (filled slots (map isSome os))) ++ rest) k) (pad (packed (filled slots (map isSome os))) ++ rest)) (sym l)
+    ∙ packed-next slots (map isSome os) b (omega (arith, l)) rest
+    ∙ ap (λ t. pad (packed t) ++ rest) more
 
 pub marks-next : {A : Type 0} (slots nulls : ℕ) (os : List (Option A)) (o : Option A) (rest : List ℕ) (b : Bool) → length os < slots → isSome o ≡ b
     → cond (b && ltb 0 nulls) (withBit (pad (marks slots nulls os) ++ rest) (length os)) (pad (marks slots nulls os) ++ rest) ≡ pad (marks slots nulls (os ++ (o ∷ []))) ++ rest
 marks-next slots zero os o rest true h e = refl
 marks-next slots zero os o rest false h e = refl
-marks-next slots (suc n) os o rest true h e = rw (eqb·suc-zero n, lt-ltb 0 (suc n) (omega arith)) (packed-next slots os o h rest true e)
-marks-next slots (suc n) os o rest false h e = rw (eqb·suc-zero n) (packed-next slots os o h rest false e)
+marks-next slots (suc n) os o rest true h e = rw (eqb·suc-zero n, lt-ltb 0 (suc n) (omega arith)) (marks-one slots os o rest true h e)
+marks-next slots (suc n) os o rest false h e = rw (eqb·suc-zero n) (marks-one slots os o rest false h e)
 
 -- all rows
 pub firsts-all : (w n : ℕ) (ns : List ℕ) → length ns ≡ n → firsts w n ns ≡ numbers w ns

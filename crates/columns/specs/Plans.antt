@@ -1,6 +1,6 @@
 -- What a plan says of a column's sizes.
 use mathlib.Core.Path.{_≡_}
-use Prim.Native.Nat.{ℕ, _+_, _^_, _≤_, _<_, min}
+use Prim.Native.Nat.{ℕ, _+_, _^_, _<_, min}
 use lib.ListN.{length}
 use Rattle.bytes.specs.Numbers.{padded}
 use Rattle.batch.specs.Format.{Column}

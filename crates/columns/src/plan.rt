@@ -1,7 +1,9 @@
 // The sizes of a column.
 ghost use mathlib.Core.Path.{_≡_};
+ghost use mathlib.Core.Bool.{cond};
 ghost use mathlib.Core.List.{_++_};
-ghost use Prim.Native.Nat.{_+_, _*_, _^_, _≤_, _<_};
+ghost use Prim.Native.Nat.{_+_, _*_, _/_, _^_, _≤_, _<_};
+ghost use lib.Dec.{ltb};
 ghost use lib.ListN.{length};
 ghost use Rattle.slip.specs.Slips.{answerOf};
 ghost use Rattle.bytes.specs.Lists.{splice};
@@ -29,6 +31,14 @@ pub fn round_up(n: usize) -> usize
     ensures { λ r. ⌜ r ≡ padded n ⌝ }
 {
     (n + 7) / 8 * 8
+}
+
+// The bytes of a bit for each slot, where any is null.
+pub fn bits_size(slots: usize, nulls: usize) -> usize
+    requires { ⌜ slots ≤ 2 ^ 24 ⌝ }
+    ensures { λ r. ⌜ r ≡ cond (ltb 0 nulls) ((slots + 7) / 8) 0 ⌝ }
+{
+    if nulls > 0 { (slots + 7) / 8 } else { 0 }
 }
 
 // Writes where a buffer lies and how long it is; an empty one has place 0.

@@ -20,6 +20,7 @@ ghost use Rattle.columns.specs.Spans.{Row, begun, Laid, Begun, Suits, Counted,
 use crate::offset::OffsetSize;
 use crate::offset::put_count;
 use crate::plan::Plan;
+use crate::plan::bits_size;
 use crate::plan::round_up;
 use crate::shape::Shape;
 use bytes::set_bit;
@@ -31,16 +32,8 @@ pub struct Spans {
     pub plan: Plan,
 }
 
-// The bytes of a bit for each slot, where any is null.
-pub fn bits_size(slots: usize, nulls: usize) -> usize
-    requires { ⌜ slots ≤ 2 ^ 24 ⌝ }
-    ensures { λ r. ⌜ r ≡ cond (ltb 0 nulls) ((slots + 7) / 8) 0 ⌝ }
-{
-    if nulls > 0 { (slots + 7) / 8 } else { 0 }
-}
-
 // Sets a valid slot's bit, where any slot is null.
-pub fn put_bit(out: &mut [u8], nulls: usize, slot: usize, valid: bool)
+fn put_bit(out: &mut [u8], nulls: usize, slot: usize, valid: bool)
     requires { ⌜ (0 < nulls → slot / 8 < length (now out)) ⌝ }
     ensures { λ _. ⌜ now (out .exit) ≡ cond (valid && ltb 0 nulls) (withBit (now (out .entry)) slot) (now (out .entry)) ⌝ }
 {

@@ -33,6 +33,7 @@ struct Nesting {
 }
 
 impl Nesting {
+    // Before the first element.
     fn top() -> Nesting {
         Nesting {
             depth: 0,
@@ -42,6 +43,7 @@ impl Nesting {
         }
     }
 
+    // After an opening bracket.
     fn entered(self, object: bool) -> Nesting {
         Nesting {
             depth: self.depth.saturating_add(1),
@@ -51,6 +53,7 @@ impl Nesting {
         }
     }
 
+    // After a closing bracket.
     fn left(self) -> Nesting {
         let objects = self.objects >> 1;
         Nesting {
@@ -71,6 +74,7 @@ impl Nesting {
         }
     }
 
+    // After the upper half of a whole number.
     fn halfway(self) -> Nesting {
         Nesting {
             depth: self.depth,
@@ -80,6 +84,7 @@ impl Nesting {
         }
     }
 
+    // After any element.
     fn after(self, element: TapeElement) -> Nesting {
         match element {
             TapeElement::StartObject(_) => self.entered(true),
@@ -228,6 +233,7 @@ pub fn top_values(heap: Global, tape: Tape) -> Result<Vec<u32>, AllocError>
     Ok(rows)
 }
 
+// The line of a row.
 fn write_row<W: fmt::Write>(out: &mut W, tape: Tape, row: usize, at: u32) -> fmt::Result
     requires { ⌜ Opened tape ⌝ }
 {

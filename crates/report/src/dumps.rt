@@ -46,6 +46,7 @@ fn read(rt: &LibcRuntime, prefix: &str, ending: &str) -> Result<Option<Vec<u8>>,
     }
 }
 
+// Prints the slip of a refusal.
 fn print_fault(rt: &LibcRuntime, fault: Fault) -> Result<Outcome, AnyError> {
     let mut out = String::new(rt.alloc());
     slips::write_slip(&mut out, fault)?;

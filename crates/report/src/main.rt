@@ -51,6 +51,7 @@ fn report_on(rt: &LibcRuntime, prefix: &str, tally: &mut Tally) -> Result<(), An
     Ok(())
 }
 
+// The report on every prefix that was given.
 fn run(rt: &LibcRuntime) -> Result<(), AnyError> {
     let mut tally = Tally {
         opened: 0,

@@ -1,1 +1,4 @@
 pub mod Entering
+pub mod Kinds
+pub mod Filling
+pub mod Structs

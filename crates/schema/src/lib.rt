@@ -2,7 +2,7 @@
 ghost use mathlib.Core.Path.{_≡_};
 ghost use lib.Dec.{eqb};
 ghost use lib.ListN.{length};
-ghost use Prim.Native.Nat.{_+_, _<_, _≤_};
+ghost use Prim.Native.Nat.{_+_, _^_, _<_, _≤_};
 ghost use Rattle.std.specs.Text.{Utf8};
 ghost use Rattle.schema.specs.Layout.{recordCount, letterAt, flagAt, wideAt, endAt, startAt, sizeAt, nameAt, countAt};
 ghost use Rattle.schema.specs.Held.{letterOf, wideOf, countOf};
@@ -106,6 +106,7 @@ impl<'a> Schema<'a> {
     // The fields of a struct, or the items in a row of a fixed-size list.
     pub fn count(self, i: usize) -> usize
         requires { ⌜ i < sizeOf self ⌝ }
+        ensures small { λ r. ⌜ r < 2 ^ 16 ⌝ }
         ensures said { λ r. ⌜ r ≡ countAt (recordsOf (self .entry)) i ⌝ }
         ensures node { λ r. ⌜ ((t : Node) → NodeOf (self .entry) i t → r ≡ countOf t) ⌝ }
     {

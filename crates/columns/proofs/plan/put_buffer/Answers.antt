@@ -1,15 +1,9 @@
-use mathlib.Core.Path.{_≡_, refl, ap, _∙_}
-use mathlib.Core.Bool.{cond, true, false}
-use Prim.Native.Nat.{ℕ, _+_, _≤_}
+use mathlib.Core.Path.{_≡_}
 use native.Mathlib.Omega.{arith}
-use lib.Dec.{eqb}
-use borrow.Author.Needs.{needs}
 use Rattle.std.proofs.shelf.Ways.{tells}
-use Rattle.bytes.specs.Numbers.{le}
 use Rattle.batch.specs.Batch.{lyingAt}
 use Rattle.columns.proofs.Records.{two-words}
 use Rattle.columns.proofs.plan.put_buffer.Needs as need
-use Rattle.columns.proofs.plan.put_buffer.Needs.{then-size-eq0, else-size-eq0}
 
 pub returns : need.returns
 returns c =

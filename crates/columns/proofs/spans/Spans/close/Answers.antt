@@ -1,9 +1,8 @@
-use mathlib.Core.Path.{_≡_, refl, ap, _∙_}
+use mathlib.Core.Path.{_≡_, ap}
 use mathlib.Core.Bool.{true, false}
 use mathlib.Core.Logic.{⊎-elim}
-use Prim.Native.Nat.{ℕ, _+_, _*_, _≤_}
+use Prim.Native.Nat.{ℕ, _*_}
 use native.Mathlib.Omega.{arith}
-use Rattle.columns.specs.declared.shape.Shape.{Shape}
 use Rattle.columns.proofs.Begins.{ended, laid-small, laid-bits, room-ended, open-close, ended-close}
 use Rattle.columns.proofs.spans.Spans.close.Needs as need
 
