@@ -3,7 +3,7 @@ use mathlib.Core.Path.{_≡_, refl, sym, ap, _∙_, subst}
 use mathlib.Core.Bool.{Bool, cond, _&&_, _||_}
 use mathlib.Core.List.{List, [], _∷_, map}
 use mathlib.Core.Option.{Option, none, some}
-use Prim.Native.Nat.{ℕ, suc, _+_, _*_, _<_, _≤_}
+use Prim.Native.Nat.{ℕ, suc, _*_, _<_}
 use lib.ListN.{length, set, replicate}
 use Rattle.std.specs.declared.option.Option.{Option as Maybe}
 use Rattle.std.specs.declared.option.Option.the-variants.{None, Some}
@@ -18,7 +18,7 @@ use Rattle.schema.specs.Tree.{Field, Fields, Branch, struct, list, fixed, _⊕_
 use Rattle.schema.specs.declared.settings.Settings.{Settings}
 use Rattle.names.specs.Lowest.{lowest}
 use Rattle.batch.specs.Rows.{letter, listed, placed, rowAt}
-use Rattle.batch.specs.Values.{taken, zeros}
+use Rattle.batch.specs.Values.{taken}
 use Rattle.batch.specs.Batch.{branchColumn}
 use Rattle.columns.specs.Areas.{written, space}
 use Rattle.rows.specs.declared.Entered.{Entered}

@@ -1,14 +1,14 @@
 -- Positions written into a work list.
 use mathlib.Core.Path.{_≡_, refl, sym, ap, _∙_}
 use mathlib.Core.Bool.{true}
-use mathlib.Core.List.{List, [], _∷_, _++_, map}
+use mathlib.Core.List.{List, [], _∷_, _++_}
 use mathlib.Core.Logic.{_⊎_, inl, inr, ⊎-elim, _≢_}
 use Prim.Native.Nat.{ℕ, zero, suc, _+_, _-_, _*_, _/_, _%_, _≤_, _<_}
 use native.Mathlib.Nat.{mul-le-mul-right, add-mul, zero-mul, mod-lt, div-add-mod', div-lt-iff-lt-mul}
 use native.Mathlib.Omega.{arith}
 use borrow.Author.Needs.{needs}
 use lib.ListN.{length, getD, set, take, drop, replicate}
-use Rattle.std.proofs.shelf.Lists.{places, same-lists, length-take-le, getD-take, getD-set-same, getD-set-other, getD-append-left, getD-append-right, length-append, length-map, length-replicate, getD-map, getD-default, getD-drop, length-drop, drop-more, length-set}
+use Rattle.std.proofs.shelf.Lists.{places, same-lists, length-take-le, getD-take, getD-set-same, getD-set-other, getD-append-left, getD-append-right, length-append, length-map, getD-map, getD-default, getD-drop, length-drop, drop-more, length-set}
 use Rattle.std.proofs.shelf.Tests.{cases-lt, cases-eq, cases-order}
 use Rattle.bytes.specs.Lists.{part}
 use Rattle.tape.specs.View.{TapeView, isPosition}

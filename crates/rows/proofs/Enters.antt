@@ -3,7 +3,7 @@ use mathlib.Core.Path.{_≡_, refl, sym, ap, _∙_, subst}
 use mathlib.Core.Bool.{Bool, true}
 use mathlib.Core.List.{List, [], _∷_, map}
 use mathlib.Core.Option.{Option}
-use Prim.Native.Nat.{ℕ, _+_, _*_, _≤_, _<_}
+use Prim.Native.Nat.{ℕ, _*_, _≤_}
 use native.Mathlib.Omega.{arith}
 use lib.ListN.{length, getD}
 use Rattle.std.specs.declared.result.Result.the-variants.{Ok, Err}
@@ -15,10 +15,9 @@ use Rattle.schema.specs.Tree.{Field, Fields, Branch, many}
 use Rattle.schema.specs.declared.settings.Settings.{Settings}
 use Rattle.batch.specs.Rows.{rowAt}
 use Rattle.batch.specs.Values.{taken, zeros}
-use Rattle.batch.specs.Batch.{nulls, branchColumn, sizeOf}
+use Rattle.batch.specs.Batch.{nulls, branchColumn}
 use Rattle.columns.specs.Areas.{written, space}
 use Rattle.columns.proofs.Places.{space-there}
-use Rattle.rows.specs.declared.Entered.{Entered}
 use Rattle.rows.specs.declared.passes.Counted.{Counted}
 use Rattle.rows.specs.Entering.{rowsAt, itemsOf, Given, BranchEntered}
 use Rattle.rows.specs.Filling.{Filled, Positions}

@@ -1,10 +1,10 @@
 -- The values of a struct's row, by field.
 use mathlib.Core.Path.{_≡_, refl, sym, ap, _∙_, subst}
 use mathlib.Core.Bool.{Bool, true, false, cond}
-use mathlib.Core.List.{List, [], _∷_, map}
-use mathlib.Core.Option.{Option, none, some}
-use mathlib.Core.Logic.{_⊎_, inl, inr, ⊎-elim, _≢_}
-use Prim.Native.Nat.{ℕ, zero, suc, _+_, _*_, _≤_, _<_}
+use mathlib.Core.List.{List, [], _∷_}
+use mathlib.Core.Option.{some}
+use mathlib.Core.Logic.{_⊎_, inl, inr, ⊎-elim}
+use Prim.Native.Nat.{ℕ, _+_, _*_, _≤_, _<_}
 use native.Mathlib.Omega.{arith}
 use lib.ListN.{length, getD, set, replicate, length-set, length-replicate}
 use Rattle.std.specs.declared.option.Option.{Option as Maybe}
@@ -16,7 +16,7 @@ use Rattle.bytes.proofs.Pieces.{length-between, between-at}
 use Rattle.slip.specs.Slips.{Slip, slip, Got, refuse, got, then, isGot}
 use Rattle.tape.specs.Opens.{Untorn, viewOf}
 use Rattle.tape.specs.View.{TapeView, isAt, isPosition, entries, wordsAt}
-use Rattle.schema.specs.Tree.{Field, Branch, struct, many, names}
+use Rattle.schema.specs.Tree.{Field, many, names}
 use Rattle.schema.specs.declared.settings.Settings.{Settings}
 use Rattle.names.specs.Lowest.{lowest, Lowest}
 use Rattle.names.proofs.Lowests.{always-lowest}
@@ -24,7 +24,7 @@ use Rattle.batch.specs.Rows.{listed, placed}
 use Rattle.rows.specs.declared.Reading.{Reading}
 use Rattle.rows.specs.Filling.{Spread}
 use Rattle.rows.specs.Kinds.{numbered, named, bracket, rowIn}
-use Rattle.rows.specs.Structs.{fieldwise, itemIn, kept, column}
+use Rattle.rows.specs.Structs.{fieldwise, itemIn, column, withValue}
 use Rattle.rows.proofs.Alike.{many-named, names-named}
 use Rattle.rows.proofs.Cells.{further, inside}
 use Rattle.rows.proofs.Sizes.{position-at, zeros-position}
@@ -177,7 +177,7 @@ module _ (place step n : ℕ) where
   Off from to = (q : ℕ) → ((k : ℕ) → k < n → q ≡ place + k * step → ⊥) → getD to q 0 ≡ getD from q 0
 
   module _ (v : ℕ) (A B : List ℕ) where
-    pub off-kept : (x : Maybe ℕ) → ((k : ℕ) → x ≡ Some k → k < n) → Off A B → Off A (kept B place step v x)
+    pub off-kept : (x : Maybe ℕ) → ((k : ℕ) → x ≡ Some k → k < n) → Off A B → Off A (withValue B place step v x)
     off-kept (Some k) h o q off = getD-set-other B (place + k * step) q v 0 (off k (h k refl)) ∙ o q off
     off-kept None h o q off = o q off
 
@@ -193,10 +193,10 @@ module _ (place step n : ℕ) where
 -- one pair more
 module _ (s : Settings) (t : TapeView) (f : Field) (ns : List (List ℕ)) (place step n : ℕ) (B : List ℕ) (k v : ℕ) (rest : List ℕ) where
   pub placed-kept : n ≡ length ns → 0 < step → ((i : ℕ) → i < n → place + i * step < length B) → isGot (placed s t f ns (k ∷ (v ∷ rest)) (column B place step n)) ≡ true
-      → placed s t f ns rest (column (kept B place step v (lowest ns (wordsAt t k))) place step n) ≡ placed s t f ns (k ∷ (v ∷ rest)) (column B place step n)
+      → placed s t f ns rest (column (withValue B place step v (lowest ns (wordsAt t k))) place step n) ≡ placed s t f ns (k ∷ (v ∷ rest)) (column B place step n)
   placed-kept m apart room g = go (lowest ns (wordsAt t k)) refl
     where
-      go : (x : Maybe ℕ) → lowest ns (wordsAt t k) ≡ x → placed s t f ns rest (column (kept B place step v x) place step n) ≡ placed s t f ns (k ∷ (v ∷ rest)) (column B place step n)
+      go : (x : Maybe ℕ) → lowest ns (wordsAt t k) ≡ x → placed s t f ns rest (column (withValue B place step v x) place step n) ≡ placed s t f ns (k ∷ (v ∷ rest)) (column B place step n)
       go (Some i) e =
           let l : i < n = omega (arith, lowest-within ns (wordsAt t k) i (sym e)) in
           ap (placed s t f ns rest) (column-set place step n B i v l apart (room i l)) ∙ sym (placed-some s t f ns k v rest (column B place step n) i e)

@@ -2,29 +2,28 @@
 use mathlib.Core.Path.{_≡_, refl, sym, ap, _∙_, subst}
 use mathlib.Core.Bool.{Bool, true, false, cond}
 use mathlib.Core.List.{List, [], _∷_, _++_}
-use mathlib.Core.Option.{Option, none, some}
-use mathlib.Core.Logic.{_⊎_, inl, inr, ⊎-elim}
+use mathlib.Core.Option.{Option, some}
+use mathlib.Core.Logic.{_⊎_, ⊎-elim}
 use Prim.Native.Nat.{ℕ, zero, suc, _+_, _-_, _/_, _^_, _<_, _≤_}
 use native.Mathlib.Omega.{arith}
-use lib.Dec.{eqb}
 use lib.ListN.{length, getD, drop, replicate}
 use Rattle.std.proofs.shelf.Lists.{getD-past, getD-map, length-map, getD-replicate, length-replicate, getD-append-left, getD-append-right}
 use Rattle.std.proofs.shelf.Tests.{cases-lt, cases-eq, eq-eqb, ne-eqb, and-parts}
 use Rattle.bytes.specs.Lists.{all}
-use Rattle.slip.specs.Slips.{Slip, slip, Got, refuse, got, then, isGot, accepted}
-use Rattle.tape.specs.Layout.{the, elementCount, numberAt, nextAt}
+use Rattle.slip.specs.Slips.{Slip, slip, refuse, got, then, isGot, accepted}
+use Rattle.tape.specs.Layout.{the, numberAt, nextAt}
 use Rattle.tape.specs.Opens.{Untorn, viewOf}
 use Rattle.tape.specs.View.{TapeView, isAt, isPosition, entries}
 use Rattle.tape.specs.Walk.{Bracketed, Steps, PairSteps, onward}
 use Rattle.tape.proofs.Walks.{list-law, object-law, first-law, all-at, onward-pair}
-use Rattle.schema.specs.Tree.{Branch, Fields, list, fixed}
+use Rattle.schema.specs.Tree.{Branch, Fields, fixed}
 use Rattle.batch.specs.Rows.{singles, pairs}
 use Rattle.batch.specs.Values.{taken, zeros}
 use Rattle.rows.specs.declared.Reading.{Reading}
 use Rattle.rows.specs.Kinds.{bracket, beginsAt, rowIn, rowSize, rowThere, itemsIn}
 use Rattle.rows.specs.Filling.{Filled, Positions}
 use Rattle.rows.proofs.Cells.{ahead}
-use Rattle.rows.proofs.Starts.{listed, row-there, row-null, row-refused, bracket-there, bracket-null}
+use Rattle.rows.proofs.Starts.{bracket-there}
 
 module _ (r : Reading) (b : Branch) (cs : Fields) (p : ℕ) where
   pub said-got : (o : Option (List (List ℕ))) → rowIn r b cs p ≡ got o → got (rowSize b cs o) ≡ then (rowIn r b cs p) (λ o. got (rowSize b cs o))

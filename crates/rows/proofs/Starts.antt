@@ -1,17 +1,16 @@
 -- What a row is, by how it begins.
-use mathlib.Core.Path.{_≡_, refl, sym, ap, _∙_}
+use mathlib.Core.Path.{_≡_, refl, ap, _∙_}
 use mathlib.Core.Bool.{Bool, true, false, cond, _&&_, _||_}
-use mathlib.Core.List.{List, [], _∷_}
+use mathlib.Core.List.{List}
 use mathlib.Core.Option.{Option, none, some}
 use Prim.Native.Nat.{ℕ}
 use native.Mathlib.Omega.{arith}
-use lib.ListN.{length}
-use Rattle.slip.specs.Slips.{Slip, slip, Got, refuse, got, then, isGot, accepted}
+use Rattle.slip.specs.Slips.{Slip, slip, Got, refuse, got, then, isGot}
 use Rattle.tape.specs.Layout.{the}
 use Rattle.tape.specs.Opens.{viewOf}
 use Rattle.tape.specs.View.{TapeView, isAt}
 use Rattle.schema.specs.Tree.{Branch, Fields, struct, list, fixed}
-use Rattle.batch.specs.Rows.{itemsAt, singles, pairs}
+use Rattle.batch.specs.Rows.{itemsAt}
 use Rattle.rows.specs.declared.Reading.{Reading}
 use Rattle.rows.specs.Kinds.{numbered, bracket, beginsAt, rowIn}
 

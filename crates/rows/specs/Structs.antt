@@ -26,9 +26,9 @@ itemIn r ns p =
     cond (r .settings .«list_rows») (listed (numbered (r .node)) (length ns) p es) (placed (r .settings) (viewOf (r .tape)) (numbered (r .node)) ns es (replicate (length ns) 0))
 
 -- a work list with a value at a field's place, if there is such a field
-abbrev pub kept : List ℕ → (place step value : ℕ) → Option ℕ → List ℕ
-kept work place step value (Some k) = set work (place + k * step) value
-kept work place step value None = work
+abbrev pub withValue : List ℕ → (place step value : ℕ) → Option ℕ → List ℕ
+withValue work place step value (Some k) = set work (place + k * step) value
+withValue work place step value None = work
 
 -- what stands in every `step`th place from `place` on
 abbrev pub column : List ℕ → (place step count : ℕ) → List ℕ

@@ -1,6 +1,6 @@
 // What the kinds of branches have in common: how a row begins, and what it gives to the children.
 ghost use mathlib.Core.Path.{_≡_};
-ghost use mathlib.Core.Bool.{true, not};
+ghost use mathlib.Core.Bool.{true};
 ghost use lib.ListN.{length};
 ghost use Prim.Native.Nat.{_+_, _*_, _^_, _≤_};
 ghost use Rattle.std.specs.Vec.{made};

@@ -133,7 +133,7 @@ pub fn enter_map(
     requires place { ⌜ Place (now area) (reading .node) top ⌝ }
     ensures { λ r. ⌜ ((f : Field) (cs : Fields) → f .number ≡ reading .entry .node → many cs ≡ 2 → BranchEntered (reading .entry .settings) (viewOf (reading .entry .tape)) f Branch.map cs (reading .entry .«in_force») (now (rows .entry)) top (now (area .entry)) (now (area .exit)) (now (work .entry)) (now (work .exit)) r) ⌝ }
 {
-    let kind = MapRows {};
+    let kind = MapRows;
     enter::<MapRows, i32>(&kind, reading, rows, work, area, top)
 }
 

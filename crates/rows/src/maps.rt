@@ -44,7 +44,7 @@ fn put_pairs(tape: Tape<'_>, p: u32, work: &mut [u32], stride: usize, at: usize)
 
 // The rows of a map: a null row takes nothing.
 #[derive(Clone, Copy)]
-pub(crate) struct MapRows {}
+pub(crate) struct MapRows;
 
 pub(crate) impl RowKind for MapRows as MapRowKind {
     ghost branch = { λ _. Branch.map };

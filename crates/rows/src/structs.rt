@@ -1,7 +1,7 @@
 // The rows of a struct, by object or by list.
 ghost use mathlib.Core.Path.{_≡_};
 ghost use mathlib.Core.Bool.{true};
-ghost use Prim.Native.Nat.{ℕ, _+_, _*_, _<_, _≤_};
+ghost use Prim.Native.Nat.{ℕ, _+_, _*_, _<_};
 ghost use mathlib.Core.List.{List};
 ghost use lib.ListN.{length, replicate};
 ghost use denote.Ref.{now};
@@ -13,7 +13,7 @@ ghost use Rattle.names.specs.Lowest.{lowest};
 ghost use Rattle.batch.specs.Rows.{listed, placed};
 ghost use Rattle.rows.specs.Kinds.{numbered, named, bracket};
 ghost use Rattle.rows.specs.Filling.{Spread};
-ghost use Rattle.rows.specs.Structs.{fieldwise, itemIn, kept, column, Tied};
+ghost use Rattle.rows.specs.Structs.{fieldwise, itemIn, column, withValue, Tied};
 use crate::Reading;
 use crate::entries::put_entries;
 use crate::entries::put_zeros;
@@ -107,7 +107,7 @@ fn put_value<N: NameIndex>(
     requires position { ⌜ isPosition (viewOf tape) p ≡ true ⌝ }
     requires name { ⌜ isAt (viewOf tape) (the "s") p ≡ true ⌝ }
     requires room { ⌜ ((k : ℕ) → k < length (N·NameIndex .names (now index)) → place + k * step < length (now work)) ⌝ }
-    ensures { λ _. ⌜ now (work .exit) ≡ kept (now (work .entry)) place step (p + 1) (lowest (N·NameIndex .names (now (index .entry))) (wordsAt (viewOf (tape .entry)) p)) ⌝ }
+    ensures { λ _. ⌜ now (work .exit) ≡ withValue (now (work .entry)) place step (p + 1) (lowest (N·NameIndex .names (now (index .entry))) (wordsAt (viewOf (tape .entry)) p)) ⌝ }
 {
     match index.find(name_at(tape, p)) {
         Some(k) => work[place + k * step] = p + 1,

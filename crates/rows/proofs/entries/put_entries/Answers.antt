@@ -1,17 +1,17 @@
 use mathlib.Core.Path.{_≡_, sym, ap, subst, _∙_}
-use Prim.Native.Nat.{ℕ, _+_, _-_, _*_, _<_, _≤_}
+use Prim.Native.Nat.{_+_, _-_, _*_, _<_}
 use borrow.Author.Needs.{needs}
 use native.Mathlib.Omega.{arith}
-use lib.ListN.{length, take, drop, getD}
+use lib.ListN.{length, drop, getD}
 use Rattle.std.proofs.shelf.Lists.{take-all, length-drop}
-use Rattle.tape.specs.Layout.{numberAt, nextAt}
+use Rattle.tape.specs.Layout.{nextAt}
 use Rattle.tape.specs.Opens.{viewOf}
 use Rattle.tape.specs.View.{entries}
-use Rattle.tape.specs.Walk.{Steps, onward, Bracketed}
-use Rattle.tape.proofs.Walks.{list-law, onward-more, onward-none, position-below, steps-ahead, Ahead}
+use Rattle.tape.specs.Walk.{Steps, onward}
+use Rattle.tape.proofs.Walks.{list-law, onward-more, onward-none, position-below, steps-ahead}
 use Rattle.rows.specs.Filling.{Spread}
 use Rattle.rows.proofs.Cells.{ahead, spread-more, spread-none}
-use Rattle.rows.proofs.Sizes.{few-entries}
+use Rattle.rows.proofs.Sizes.{few-entries, list-start}
 use Rattle.rows.proofs.entries.put_entries.Needs as need
 
 pub next-end-requires : need.next-end-requires
@@ -19,11 +19,8 @@ next-end-requires c κs = record { opened = c .pre .opened; within = position-be
 
 pub loop-at-holds : need.loop-at-holds
 loop-at-holds c =
-    let t = viewOf (c .args .tape) in
-    let p = c .args .p in
-    let b = list-law t (c .pre .opened) p (c .pre .position) (c .pre .list) in
-    let e : numberAt (t .elements) p ≡ c .next-end .result - 1 = omega (arith, c .next-end .ensures, b .next) in
-    (subst (λ q. Steps t (p + 1) q) e (b .way), b .all-steps ∙ ap (onward t (p + 1)) e, omega arith, spread-none (c .args .from) (c .args .step) (c .args .work .now))
+    let s = list-start (viewOf (c .args .tape)) (c .pre .opened) (c .args .p) (c .next-end .result) (c .pre .position) (c .next-end .ensures) (c .pre .list) in
+    (s .0, s .1, omega arith, spread-none (c .args .from) (c .args .step) (c .args .work .now))
 
 -- the entry that is ahead
 front : (c : need.In-loop-at) → (c .loop-at .n < length (entries (viewOf (c .args .tape)) (c .args .p)))

@@ -1,7 +1,7 @@
-use mathlib.Core.Path.{_≡_, sym, subst}
+use mathlib.Core.Path.{sym, subst}
 use Prim.Native.Nat.{ℕ, _≤_}
 use native.Mathlib.Omega.{arith}
-use lib.ListN.{length, take, replicate}
+use lib.ListN.{length, replicate}
 use Rattle.std.proofs.shelf.Lists.{length-replicate, getD-replicate, take-all}
 use Rattle.rows.specs.Filling.{Spread}
 use Rattle.rows.proofs.Cells.{spread-more, spread-none}

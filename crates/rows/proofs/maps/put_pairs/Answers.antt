@@ -1,19 +1,16 @@
 use mathlib.Core.Path.{_≡_, sym, ap, subst, _∙_}
-use mathlib.Core.List.{[], _∷_}
-use Prim.Native.Nat.{ℕ, _+_, _-_, _<_, _≤_}
-use borrow.Author.Needs.{needs}
+use Prim.Native.Nat.{_+_, _-_, _<_}
 use native.Mathlib.Omega.{arith}
-use lib.ListN.{length, take, drop, getD}
+use lib.ListN.{length}
 use Rattle.std.proofs.shelf.Lists.{take-all, length-drop, length-set}
-use Rattle.tape.specs.Layout.{numberAt, nextAt}
 use Rattle.tape.specs.Opens.{viewOf}
 use Rattle.tape.specs.View.{entries}
 use Rattle.tape.specs.Walk.{PairSteps, onward}
-use Rattle.tape.proofs.Walks.{object-law, onward-none, position-below, pairs-ahead}
+use Rattle.tape.proofs.Walks.{onward-none, position-below, pairs-ahead}
 use Rattle.batch.specs.Rows.{pairs}
 use Rattle.rows.specs.Filling.{Filled}
 use Rattle.rows.proofs.Cells.{pair-more, filled-none}
-use Rattle.rows.proofs.Sizes.{pair-front}
+use Rattle.rows.proofs.Sizes.{pair-front, object-start}
 use Rattle.rows.proofs.maps.put_pairs.Needs as need
 
 pub next-end-requires : need.next-end-requires
@@ -21,11 +18,8 @@ next-end-requires c κs = record { opened = c .pre .opened; within = position-be
 
 pub loop-name-holds : need.loop-name-holds
 loop-name-holds c =
-    let t = viewOf (c .args .tape) in
-    let p = c .args .p in
-    let b = object-law t (c .pre .opened) p (c .pre .position) (c .pre .object) in
-    let e : numberAt (t .elements) p ≡ c .next-end .result - 1 = omega (arith, c .next-end .ensures, b .bracketed .next) in
-    (subst (λ q. PairSteps t (p + 1) q) e (b .pairs), ap pairs (b .bracketed .all-steps ∙ ap (onward t (p + 1)) e), omega arith, filled-none 2 (c .args .stride) (c .args .at) (c .args .work .now))
+    let s = object-start (viewOf (c .args .tape)) (c .pre .opened) (c .args .p) (c .next-end .result) (c .pre .position) (c .next-end .ensures) (c .pre .object) in
+    (s .0, ap pairs (s .1), omega arith, filled-none 2 (c .args .stride) (c .args .at) (c .args .work .now))
 
 pub loop-name-less : need.loop-name-less
 loop-name-less c = omega (arith, c .next-name .ensures, pairs-ahead (viewOf (c .args .tape)) (c .loop-name-test .taken) (c .loop-name .inv .0) .forward)

@@ -1,7 +1,5 @@
-use mathlib.Core.Path.{_≡_, sym, ap, _∙_}
-use Prim.Native.Nat.{ℕ, _+_, _≤_}
 use native.Mathlib.Omega.{arith}
-use lib.ListN.{length, getD}
+use lib.ListN.{getD}
 use Rattle.std.proofs.shelf.Results.{err-from-errBy}
 use Rattle.slip.specs.Slips.{slipOf}
 use Rattle.rows.specs.Kinds.{rowIn, rowSize}

@@ -1,6 +1,6 @@
-use mathlib.Core.Path.{_≡_, sym, ap, subst, _∙_}
+use mathlib.Core.Path.{_≡_, sym, ap, _∙_}
 use mathlib.Core.List.{map}
-use Prim.Native.Nat.{ℕ, _+_, _-_, _*_, _≤_}
+use Prim.Native.Nat.{_-_, _*_, _≤_}
 use native.Mathlib.Omega.{arith}
 use borrow.Rule.Slice.PartMut.{putMid}
 use lib.ListN.{length, replicate}
@@ -10,13 +10,13 @@ use Rattle.bytes.specs.Lists.{part}
 use Rattle.slip.specs.Slips.{each, slipOf}
 use Rattle.tape.specs.Opens.{viewOf}
 use Rattle.schema.specs.Tree.{many}
-use Rattle.batch.specs.Batch.{branchColumn, sizeOf}
+use Rattle.batch.specs.Batch.{branchColumn}
 use Rattle.columns.specs.Areas.{branchOf}
 use Rattle.columns.specs.Plans.{bytesOf}
 use Rattle.columns.proofs.Begins.{plans-size}
 use Rattle.columns.proofs.Places.{blank-behind, column-written, space-there, recordable}
-use Rattle.rows.specs.Kinds.{numbered, rowIn, rowThere, itemsIn, countsOf}
-use Rattle.rows.proofs.Enters.{Read, read, enter-refused, enter-full, enter-done}
+use Rattle.rows.specs.Kinds.{numbered, rowIn, rowThere, countsOf}
+use Rattle.rows.proofs.Enters.{read, enter-refused, enter-full, enter-done}
 use Rattle.rows.proofs.Spanned.{column-plans, few-items}
 use Rattle.rows.proofs.Tallies.{refused-then}
 use Rattle.rows.proofs.passes.enter.Needs as need

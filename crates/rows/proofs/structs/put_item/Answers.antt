@@ -2,7 +2,7 @@ use mathlib.Core.Path.{_≡_, sym, ap, subst, _∙_}
 use mathlib.Core.Bool.{true}
 use Prim.Native.Nat.{ℕ}
 use native.Mathlib.Omega.{arith}
-use lib.ListN.{length, replicate}
+use lib.ListN.{replicate}
 use Rattle.slip.specs.Slips.{isGot}
 use Rattle.tape.specs.Opens.{viewOf}
 use Rattle.tape.specs.View.{isAt, entries}

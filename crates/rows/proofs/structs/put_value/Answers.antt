@@ -1,6 +1,5 @@
 use Prim.Native.Nat.{_+_, _*_, _<_}
 use borrow.Author.Needs.{needs}
-use native.Mathlib.Omega.{arith}
 use lib.ListN.{length}
 use Rattle.rows.proofs.Placing.{lowest-within}
 use Rattle.rows.proofs.structs.put_value.Needs as need

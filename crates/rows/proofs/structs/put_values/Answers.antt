@@ -1,11 +1,9 @@
-use mathlib.Core.Path.{_≡_, refl, sym, ap, subst, _∙_}
-use mathlib.Core.Bool.{true}
-use mathlib.Core.List.{List, _∷_}
+use mathlib.Core.Path.{refl, sym, ap, subst, _∙_}
 use Prim.Native.Nat.{ℕ, _+_, _-_, _*_, _<_}
 use native.Mathlib.Omega.{arith}
-use lib.ListN.{length, replicate}
+use lib.ListN.{length}
 use Rattle.std.proofs.shelf.Tests.{eq-eqb}
-use Rattle.slip.specs.Slips.{Got, isGot}
+use Rattle.slip.specs.Slips.{isGot}
 use Rattle.tape.specs.Layout.{nextAt}
 use Rattle.tape.specs.Opens.{viewOf}
 use Rattle.tape.specs.View.{entries, wordsAt}
@@ -14,7 +12,7 @@ use Rattle.tape.proofs.Walks.{onward-pair, onward-none, position-below, pairs-a
 use Rattle.names.specs.Lowest.{lowest}
 use Rattle.batch.specs.Rows.{placed}
 use Rattle.rows.specs.Kinds.{numbered}
-use Rattle.rows.specs.Structs.{column, kept}
+use Rattle.rows.specs.Structs.{column, withValue}
 use Rattle.rows.proofs.Placing.{Off, off-kept, placed-kept, spread-column, zero-column, lowest-within}
 use Rattle.rows.proofs.Sizes.{object-start}
 use Rattle.rows.proofs.structs.put_values.Needs as need

@@ -4,10 +4,10 @@ use mathlib.Core.List.{[], _∷_}
 use mathlib.Core.Option.{none, some}
 use Prim.Native.Nat.{ℕ}
 use native.Mathlib.Omega.{arith}
-use lib.ListN.{length, replicate, length-replicate}
+use lib.ListN.{length, length-replicate}
 use Rattle.std.proofs.shelf.Lists.{length-map}
 use Rattle.std.proofs.shelf.Results.{err-from-errBy}
-use Rattle.slip.specs.Slips.{Got, got, slip, slipOf}
+use Rattle.slip.specs.Slips.{Got, got, slip}
 use Rattle.tape.specs.Opens.{viewOf}
 use Rattle.tape.specs.View.{entries}
 use Rattle.schema.specs.Tree.{fixed}

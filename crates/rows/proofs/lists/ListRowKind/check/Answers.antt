@@ -7,7 +7,7 @@ use native.Mathlib.Omega.{arith}
 use lib.ListN.{length}
 use Rattle.std.proofs.shelf.Lists.{length-map}
 use Rattle.std.proofs.shelf.Results.{err-from-errBy}
-use Rattle.slip.specs.Slips.{Got, got, slipOf}
+use Rattle.slip.specs.Slips.{Got, got}
 use Rattle.tape.specs.Opens.{viewOf}
 use Rattle.tape.specs.View.{entries}
 use Rattle.tape.proofs.Walks.{list-law}

@@ -1,14 +1,13 @@
 use mathlib.Core.Path.{_≡_, sym, ap, subst, _∙_}
-use mathlib.Core.Bool.{true, false}
+use mathlib.Core.Bool.{true}
 use mathlib.Core.List.{[], _∷_}
 use mathlib.Core.Option.{none, some}
 use Prim.Native.Nat.{ℕ, _+_, _≤_}
 use native.Mathlib.Omega.{arith}
 use lib.ListN.{length, replicate, length-replicate}
-use Rattle.std.proofs.shelf.Tests.{cases-bool}
 use Rattle.slip.specs.Slips.{accepted}
 use Rattle.tape.specs.Opens.{viewOf}
-use Rattle.tape.specs.View.{isAt, isPosition, entries}
+use Rattle.tape.specs.View.{isAt}
 use Rattle.schema.specs.Tree.{many}
 use Rattle.rows.specs.Filling.{Spread}
 use Rattle.rows.specs.Kinds.{named, bracket, rowThere}
