@@ -8,17 +8,17 @@ use lib.Dec.{ltb}
 use lib.ListN.{length, take, drop, replicate}
 use borrow.Rule.Slice.PartMut.{putMid}
 use Rattle.std.specs.declared.result.Result.the-variants.{Ok}
-use Rattle.std.proofs.shelf.Lists.{append-nil, take-replicate, drop-drop, drop-at, length-append, length-take-le, append-assoc}
+use Rattle.std.proofs.shelf.Lists.{append-nil, take-replicate, drop-drop, drop-replicate, drop-at, length-append, length-take-le, append-assoc}
 use Rattle.std.proofs.shelf.Tests.{ltb-false}
 use Rattle.slip.specs.Slips.{slip, refuse, got, answerOf}
 use Rattle.bytes.specs.Lists.{splice, part}
-use Rattle.bytes.proofs.Splices.{splice-part}
+use Rattle.bytes.proofs.Splices.{length-splice, splice-part}
 use Rattle.batch.specs.Format.{Column}
-use Rattle.batch.specs.Batch.{sizeOf, recordOf, buffers}
+use Rattle.batch.specs.Batch.{sizeOf, recordOf, records, buffers}
 use Rattle.columns.specs.Areas.{written, space, Blank, Place, Plans}
 use Rattle.columns.specs.Plans.{Totals, Recordable, bytesOf}
 use Rattle.columns.specs.declared.plan.Plan.{Plan}
-use Rattle.columns.proofs.Writes.{length-record, length-buffer}
+use Rattle.columns.proofs.Writes.{length-record, length-records, length-buffer, length-written}
 
 -- what is free is zero
 pub blank-part : (area : List ℕ) (top n : ℕ) → Blank area top → top + n ≤ length area → part area top n ≡ replicate n 0
@@ -81,3 +81,23 @@ pub column-after : (area area′ : List ℕ) (node top end : ℕ) (c : Column) (
     → putMid top (end - top) area′ bs ≡ written area node top (c ∷ [])
 column-after area area′ node top end c bs put e f =
     ap (λ t. putMid top (end - top) t bs) put ∙ column-written area node top (end - top) c bs e (omega arith)
+
+-- what is written leaves what lies behind it blank
+pub blank-written : (area : List ℕ) (node top : ℕ) (cs : List Column) → Blank area top → 32 * (node + length cs) ≤ top → top + length (buffers cs) ≤ length area
+    → Blank (written area node top cs) (top + length (buffers cs))
+blank-written area node top cs blank apart within =
+    let R = records top cs in
+    let X = splice area (32 * node) R in
+    let n : ℕ = length (buffers cs) in
+    let r = length-records top cs in
+    let x : length X ≡ length area = length-splice area (32 * node) R (omega arith) in
+    let long : length (written area node top cs) ≡ length area = length-written area node top cs apart within in
+    drop-splice X top (buffers cs) (top + n) (omega arith) (omega arith) ∙ drop-splice area (32 * node) R (top + n) (omega arith) (omega arith)
+    ∙ sym (drop-drop n top area) ∙ ap (drop n) blank ∙ drop-replicate n (length area - top) 0 ∙ ap (λ k. replicate k 0) (omega arith)
+
+-- and a place for a later node
+pub place-next : (area : List ℕ) (node top : ℕ) (cs : List Column) (next : ℕ) → Place area node top → 32 * (node + length cs) ≤ top → top + length (buffers cs) ≤ length area
+    → 32 * next + 32 ≤ top + length (buffers cs) → Place (written area node top cs) next (top + length (buffers cs))
+place-next area node top cs next p apart within below =
+    let long : length (written area node top cs) ≡ length area = length-written area node top cs apart within in
+    record { apart = below; within = omega arith; page = omega (arith, p .page); blank = blank-written area node top cs (p .blank) apart within }

@@ -1,8 +1,8 @@
 -- The text of a fault that fits.
-use mathlib.Core.Bool.{true}
+use mathlib.Core.Bool.{true, _&&_}
 use mathlib.Core.List.{List}
 use mathlib.Core.Path.{_≡_, sym, ap, _∙_, subst}
-use Prim.Native.Nat.{ℕ, _<_}
+use Prim.Native.Nat.{ℕ, _^_, _<_}
 use native.Mathlib.Omega.{arith}
 use lib.ListN.{length}
 use Rattle.std.proofs.shelf.Tests.{and-parts, false≢true}
@@ -11,7 +11,9 @@ use Rattle.slip.specs.declared.Fault.{Fault}
 use Rattle.slip.specs.declared.Fault.the-variants.{TornTape, BadSchema, BadPosition, Full, WrongKind, UnknownColumn, ExtraColumn, FewColumns, WrongCount, BareNull, Misfit, NotThere}
 use Rattle.slip.specs.Slips.{slipOf}
 use Rattle.tape.specs.Layout.{the}
-use Rattle.tape.specs.View.{TapeView, isPosition}
+use Rattle.tape.specs.Opens.{Untorn}
+use Rattle.tape.specs.View.{TapeView, isAt, entries, isPosition}
+use Rattle.tape.proofs.Walks.{list-law}
 use Rattle.schema.specs.declared.settings.Settings.{Settings}
 use Rattle.schema.specs.Held.{Held}
 use Rattle.schema.specs.Opens.{Opens}
@@ -53,6 +55,13 @@ module _ (root : Node) (t : TapeView) where
 
   pub fits-position : (node p : ℕ) (f : Fault) → f ≡ WrongKind node p → fits root t f ≡ true → isPosition t p ≡ true
   fits-position node p f e h = and-parts _ (isPosition t p) (subst (λ x. fits root t x ≡ true) e h) .1
+
+  -- a list on a tape has few entries
+  pub few-entries : (l node p : ℕ) (f g : Fault) → f ≡ g → fits root t f ≡ true → fits root t g ≡ (ofKind root t l node p && isAt t (the "[") p) → Untorn t → length (entries t p) < 2 ^ 32
+  few-entries l node p f g e h i o =
+      let a = and-parts (ofKind root t l node p) _ (sym i ∙ subst (λ x. fits root t x ≡ true) e h) in
+      let b = and-parts _ (isPosition t p) (and-parts (there root t node p) _ (a .0) .0) in
+      omega (arith, list-law t o p (b .1) (a .1) .few, o .few-elements)
 
   -- the way and the sentence
   pub puts-told : {n to m : ℕ} {a b c : List ℕ} (s : Settings) (own : List ℕ) (f g : Fault) → f ≡ g → n ≡ slipOf f .node

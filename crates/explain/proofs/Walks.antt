@@ -119,7 +119,7 @@ itemsFrom t d p q = listed (map (elementText t d) (onward t p q)) ++ codes "]"
 abbrev pub membersFrom : TapeView → (depth p q : ℕ) → List ℕ
 membersFrom t d p q = paired (map (elementText t d) (onward t p q)) ++ codes "}"
 
-text-at : (t : TapeView) (d p : ℕ) (e : Elem) → 0 < d → elementAt t p ≡ e → elementText t d p ≡ nested e (map (elementText t (d - 1)) (entries t p))
+pub text-at : (t : TapeView) (d p : ℕ) (e : Elem) → 0 < d → elementAt t p ≡ e → elementText t d p ≡ nested e (map (elementText t (d - 1)) (entries t p))
 unfolding elementText
 text-at t zero p e h i = absurd (omega arith)
 text-at t (suc d) p e h i = let k : suc d - 1 ≡ d = omega arith in rw (k, i) refl

@@ -10,7 +10,7 @@ use Rattle.std.specs.Written.{decimal}
 use Rattle.std.specs.declared.result.Result.{Result}
 use Rattle.slip.specs.declared.Fault.{Fault}
 use Rattle.slip.specs.declared.Fault.the-variants.{TornTape, BadSchema, BadPosition, Full, WrongKind, UnknownColumn, ExtraColumn, FewColumns, WrongCount, BareNull, Misfit, NotThere}
-use Rattle.slip.specs.Slips.{Got, refuse, got, slip, slipOf, notThere, answerOf, then}
+use Rattle.slip.specs.Slips.{Slip, Got, refuse, got, slip, slipOf, notThere, answerOf, then}
 use Rattle.bytes.specs.Lists.{splice}
 use Rattle.tape.specs.Layout.{the}
 use Rattle.tape.specs.View.{TapeView, isAt, wordsAt, entries, isPosition}
@@ -93,10 +93,14 @@ module _ (root : Node) (t : TapeView) where
   abbrev pub told : Settings → (own : List ℕ) → Fault → List ℕ
   told s own f = wayTo (slipOf f .node) root ++ sentence s own f
 
+-- the refusal of too small an area
+abbrev pub noRoom : Slip
+noRoom = slip 4 0 0
+
 -- the text of a fault in an area of so many bytes: refused where the fault does not fit, and where the text does not
 abbrev pub explanation : Settings → (own : List ℕ) → Node → TapeView → Fault → (room : ℕ) → Got (List ℕ)
 explanation s own root t f room =
-    cond (fits root t f) (cond (leb (length (told root t s own f)) room) (got (told root t s own f)) (refuse (slip 4 0 0))) (refuse notThere)
+    cond (fits root t f) (cond (leb (length (told root t s own f)) room) (got (told root t s own f)) (refuse noRoom)) (refuse notThere)
 
 -- the area afterwards: the text over its first bytes, or nothing changed
 abbrev pub written : List ℕ → Got (List ℕ) → List ℕ

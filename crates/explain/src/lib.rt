@@ -7,6 +7,7 @@ ghost use Rattle.explain.specs.Explanation.{explanation, Explains};
 
 mod element;
 mod fault;
+pub mod laws;
 mod put;
 mod sentence;
 mod way;

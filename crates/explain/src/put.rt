@@ -1,6 +1,7 @@
 // Bytes put into an area one after another. What has no room is counted and not written.
 ghost use mathlib.Core.Bool.{cond};
 ghost use mathlib.Core.List.{[], _++_};
+ghost use Prim.Native.Nat.{_^_, _<_};
 ghost use lib.Chars.{codes};
 ghost use Rattle.std.specs.Written.{decimal, signed};
 ghost use Rattle.explain.specs.Puts.{Puts};
@@ -28,15 +29,12 @@ pub(crate) fn put_number(out: &mut [u8], at: usize, n: i64) -> usize
     at.saturating_add(size)
 }
 
-// Puts a count in decimals: the digits before the last, and the last.
+// Puts a count in decimals.
 pub(crate) fn put_count(out: &mut [u8], at: usize, n: usize) -> usize
+    requires { ⌜ n < 2 ^ 32 ⌝ }
     ensures { λ r. ⌜ Puts at (decimal n) (now (out .entry)) (now (out .exit)) r ⌝ }
 {
-    if n < 10 {
-        return put(out, at, &[b'0' + n as u8]);
-    }
-    let to = put_count(out, at, n / 10);
-    put(out, to, &[b'0' + (n % 10) as u8])
+    put_number(out, at, n as i64)
 }
 
 // Puts a comma where more follows.

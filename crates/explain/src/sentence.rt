@@ -1,5 +1,5 @@
 // What is wrong: the sentence of each fault that has one.
-ghost use Prim.Native.Nat.{_<_};
+ghost use Prim.Native.Nat.{_^_, _<_};
 ghost use Rattle.schema.specs.Opened.{NodeOf, sizeOf};
 ghost use Rattle.schema.specs.Tree.{Node};
 ghost use Rattle.explain.specs.Explanation.{wordOf, expected, unknownColumn, extraColumn, fewColumns, wrongCount};
@@ -61,6 +61,7 @@ pub(crate) fn put_unknown_column(out: &mut [u8], at: usize, name: &[u8]) -> usiz
 
 // More entries than fields.
 pub(crate) fn put_extra_column(out: &mut [u8], at: usize, fields: usize) -> usize
+    requires { ⌜ fields < 2 ^ 32 ⌝ }
     ensures { λ r. ⌜ Puts at (extraColumn fields) (now (out .entry)) (now (out .exit)) r ⌝ }
 {
     let to = put(out, at, b"found extra columns for ");
@@ -70,6 +71,7 @@ pub(crate) fn put_extra_column(out: &mut [u8], at: usize, fields: usize) -> usiz
 
 // Fewer entries than fields.
 pub(crate) fn put_few_columns(out: &mut [u8], at: usize, columns: usize, fields: usize) -> usize
+    requires { ⌜ columns < 2 ^ 32 ⌝ ∗ ⌜ fields < 2 ^ 32 ⌝ }
     ensures { λ r. ⌜ Puts at (fewColumns columns fields) (now (out .entry)) (now (out .exit)) r ⌝ }
 {
     let to = put(out, at, b"found ");
@@ -81,6 +83,7 @@ pub(crate) fn put_few_columns(out: &mut [u8], at: usize, columns: usize, fields:
 
 // A row of a fixed-size list that has not its count of entries.
 pub(crate) fn put_wrong_count(out: &mut [u8], at: usize, wanted: usize, found: usize) -> usize
+    requires { ⌜ wanted < 2 ^ 32 ⌝ ∗ ⌜ found < 2 ^ 32 ⌝ }
     ensures { λ r. ⌜ Puts at (wrongCount wanted found) (now (out .entry)) (now (out .exit)) r ⌝ }
 {
     let to = put(
