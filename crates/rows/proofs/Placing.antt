@@ -16,7 +16,7 @@ use Rattle.bytes.proofs.Pieces.{length-between, between-at}
 use Rattle.slip.specs.Slips.{Slip, slip, Got, refuse, got, then, isGot}
 use Rattle.tape.specs.Opens.{Untorn, viewOf}
 use Rattle.tape.specs.View.{TapeView, isAt, isPosition, entries, wordsAt}
-use Rattle.schema.specs.Tree.{Field, many, names, struct}
+use Rattle.schema.specs.Tree.{Field, many, names}
 use Rattle.schema.specs.declared.settings.Settings.{Settings}
 use Rattle.names.specs.Lowest.{lowest, Lowest}
 use Rattle.names.proofs.Lowests.{always-lowest}
@@ -24,7 +24,7 @@ use Rattle.batch.specs.Rows.{listed, placed}
 use Rattle.rows.specs.declared.Reading.{Reading}
 use Rattle.rows.specs.Filling.{Spread}
 use Rattle.rows.specs.Kinds.{numbered, named, bracket, rowIn}
-use Rattle.rows.specs.Structs.{itemIn, column, withValue}
+use Rattle.rows.specs.Structs.{fieldwise, itemIn, column, withValue}
 use Rattle.rows.proofs.Alike.{many-named, names-named}
 use Rattle.rows.proofs.Cells.{further, inside}
 use Rattle.rows.proofs.Sizes.{position-at, zeros-position}
@@ -216,9 +216,9 @@ module _ (r : Reading) (ns : List (List ℕ)) (p : ℕ) where
       ap (λ m. cond (r .settings .«list_rows») (listed (numbered (r .node)) m p es) (placed (r .settings) (viewOf (r .tape)) (numbered (r .node)) (names (named ns)) es (replicate m 0))) (many-named ns)
       ∙ ap (λ us. cond (r .settings .«list_rows») (listed (numbered (r .node)) (length ns) p es) (placed (r .settings) (viewOf (r .tape)) (numbered (r .node)) us es (replicate (length ns) 0))) (names-named ns)
 
-  pub struct-there : isAt (viewOf (r .tape)) (bracket (r .settings .«list_rows»)) p ≡ true → rowIn r struct (named ns) p ≡ then (itemIn r ns p) (λ item. got (some (item ∷ [])))
+  pub struct-there : isAt (viewOf (r .tape)) (bracket (r .settings .«list_rows»)) p ≡ true → rowIn r fieldwise (named ns) p ≡ then (itemIn r ns p) (λ item. got (some (item ∷ [])))
   struct-there e =
-      bracket-there r (named ns) p struct e
+      bracket-there r (named ns) p fieldwise e
       ∙ then-then _ (λ item. got (item ∷ [])) (λ is. got (some is))
       ∙ ap (λ x. then x (λ item. got (some (item ∷ [])))) item-named
 
@@ -254,13 +254,13 @@ module _ (r : Reading) (ns : List (List ℕ)) (p : ℕ) where
 
   -- the row's one item
   module _ (begun : isAt (viewOf (r .tape)) (bracket (r .settings .«list_rows»)) p ≡ true) where
-    pub row-item : (item : List ℕ) → itemIn r ns p ≡ got item → rowIn r struct (named ns) p ≡ got (some (item ∷ []))
+    pub row-item : (item : List ℕ) → itemIn r ns p ≡ got item → rowIn r fieldwise (named ns) p ≡ got (some (item ∷ []))
     row-item item e = struct-there begun ∙ ap (λ x. then x (λ item. got (some (item ∷ [])))) e
 
-    pub row-unfit : (s : Slip) → itemIn r ns p ≡ refuse s → rowIn r struct (named ns) p ≡ refuse s
+    pub row-unfit : (s : Slip) → itemIn r ns p ≡ refuse s → rowIn r fieldwise (named ns) p ≡ refuse s
     row-unfit s e = struct-there begun ∙ ap (λ x. then x (λ item. got (some (item ∷ [])))) e
 
-    pub accepted-item : isGot (rowIn r struct (named ns) p) ≡ true → isGot (itemIn r ns p) ≡ true
+    pub accepted-item : isGot (rowIn r fieldwise (named ns) p) ≡ true → isGot (itemIn r ns p) ≡ true
     accepted-item g = sym (got-through (itemIn r ns p) (λ item. some (item ∷ []))) ∙ ap isGot (sym (struct-there begun)) ∙ g
 
 -- the places of the fields

@@ -32,6 +32,9 @@ module _ (r : Reading) (b : Branch) (cs : Fields) (p : ℕ) where
   pub said-refused : (s : Slip) → rowIn r b cs p ≡ refuse s → refuse s ≡ then (rowIn r b cs p) (λ o. got (rowSize b cs o))
   said-refused s e = ap (λ x. then x (λ o. got (rowSize b cs o))) (sym e)
 
+  pub there-got : (o : Option (List (List ℕ))) → rowIn r b cs p ≡ got o → rowThere r b cs p ≡ o
+  there-got o e = ap accepted e
+
 -- what a filled row tells, by what the row is
 module _ (r : Reading) (b : Branch) (cs : Fields) (p : ℕ) (o : Option (List (List ℕ))) (e : rowThere r b cs p ≡ o) where
   pub items-there : itemsIn r b cs p ≡ taken b (zeros cs) o

@@ -10,9 +10,14 @@ use Rattle.bytes.specs.Lists.{between}
 use Rattle.slip.specs.Slips.{Got}
 use Rattle.tape.specs.Opens.{viewOf}
 use Rattle.tape.specs.View.{entries}
+use Rattle.schema.specs.Tree.{Branch, struct}
 use Rattle.batch.specs.Rows.{listed, placed}
 use Rattle.rows.specs.declared.Reading.{Reading}
 use Rattle.rows.specs.Kinds.{numbered}
+
+-- the branch of a struct
+abbrev pub fieldwise : Branch
+fieldwise = struct
 
 -- the values of a row by field, where the fields have these names
 abbrev pub itemIn : Reading → List (List ℕ) → ℕ → Got (List ℕ)

@@ -6,10 +6,11 @@ ghost use lib.Dec.{eqb};
 ghost use lib.ListN.{length, getD};
 ghost use Rattle.tape.specs.Opens.{Opened, viewOf};
 ghost use Rattle.tape.specs.View.{isPosition};
-ghost use Rattle.schema.specs.Tree.{Branch, Field, Fields, list, fixed, many, names as namesOf, struct};
+ghost use Rattle.schema.specs.Tree.{Branch, Field, Fields, list, fixed, many, names as namesOf};
 ghost use Rattle.batch.specs.Format.{width};
 ghost use Rattle.columns.specs.Areas.{Place};
 ghost use Rattle.rows.specs.Entering.{BranchEntered};
+ghost use Rattle.rows.specs.Structs.{fieldwise};
 use columns::offset::NarrowOffset;
 use columns::offset::OffsetSize;
 use lists::FixedRowKind;
@@ -154,7 +155,7 @@ pub fn enter_struct<N: NameIndex>(
     requires ready { ⌜ N·NameIndex .ready (now index) ⌝ }
     requires fields { ⌜ fields ≡ length (N·NameIndex .names (now index)) ⌝ }
     requires limit { ⌜ fields ≤ 64 ⌝ }
-    ensures { λ r. ⌜ ((f : Field) (cs : Fields) → f .number ≡ reading .entry .node → namesOf cs ≡ N·NameIndex .names (now (index .entry)) → BranchEntered (reading .entry .settings) (viewOf (reading .entry .tape)) f struct cs (reading .entry .«in_force») (now (rows .entry)) top (now (area .entry)) (now (area .exit)) (now (work .entry)) (now (work .exit)) r) ⌝ }
+    ensures { λ r. ⌜ ((f : Field) (cs : Fields) → f .number ≡ reading .entry .node → namesOf cs ≡ N·NameIndex .names (now (index .entry)) → BranchEntered (reading .entry .settings) (viewOf (reading .entry .tape)) f fieldwise cs (reading .entry .«in_force») (now (rows .entry)) top (now (area .entry)) (now (area .exit)) (now (work .entry)) (now (work .exit)) r) ⌝ }
 {
     let kind = StructRows { index, fields };
     enter::<StructRows<'_, N>, i32>(&kind, reading, rows, work, area, top)

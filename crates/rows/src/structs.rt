@@ -10,11 +10,10 @@ ghost use Rattle.tape.specs.Layout.{the};
 ghost use Rattle.tape.specs.Opens.{Opened, viewOf};
 ghost use Rattle.tape.specs.View.{isAt, isPosition, entries, wordsAt};
 ghost use Rattle.names.specs.Lowest.{lowest};
-ghost use Rattle.schema.specs.Tree.{struct};
 ghost use Rattle.batch.specs.Rows.{listed, placed};
 ghost use Rattle.rows.specs.Kinds.{numbered, named, bracket};
 ghost use Rattle.rows.specs.Filling.{Spread};
-ghost use Rattle.rows.specs.Structs.{itemIn, column, withValue, Tied};
+ghost use Rattle.rows.specs.Structs.{fieldwise, itemIn, column, withValue, Tied};
 use crate::Reading;
 use crate::entries::put_entries;
 use crate::entries::put_zeros;
@@ -202,7 +201,7 @@ pub(crate) struct StructRows<'a, N> {
 }
 
 pub(crate) impl<N: NameIndex> RowKind for StructRows<'_, N> as StructRowKind {
-    ghost branch = { λ _. struct };
+    ghost branch = { λ _. fieldwise };
 
     ghost children = { λ s. named (N·NameIndex .names (now (s .index))) };
 

@@ -5,9 +5,8 @@ use mathlib.Core.Option.{none, some}
 use native.Mathlib.Omega.{arith}
 use Rattle.std.proofs.shelf.Results.{err-from-errBy}
 use Rattle.slip.specs.Slips.{got, slipOf}
-use Rattle.schema.specs.Tree.{struct}
 use Rattle.rows.specs.Kinds.{named, beginsAt}
-use Rattle.rows.specs.Structs.{itemIn}
+use Rattle.rows.specs.Structs.{fieldwise, itemIn}
 use Rattle.rows.proofs.Placing.{row-item, row-unfit}
 use Rattle.rows.proofs.Sizes.{said-got, said-refused, begins-bracket}
 use Rattle.rows.proofs.Starts.{row-null, row-refused}
@@ -24,7 +23,7 @@ pub returns-in-Break-begins : need.returns-in-Break-begins
 returns-in-Break-begins g c =
     let cs = named (g .N·NameIndex .names (c .args .self .now .index .now)) in
     let p = err-from-errBy (c .from-residual .result) (c .from-residual .ensures .1) in
-    rw (p .1, p .2) (record { said = said-refused (c .args .reading) struct cs (c .args .p) _ (row-refused (c .args .reading) cs (c .args .p) struct _ (sym (c .in-Break-begins .ensures tt))); few = tt })
+    rw (p .1, p .2) (record { said = said-refused (c .args .reading) fieldwise cs (c .args .p) _ (row-refused (c .args .reading) cs (c .args .p) fieldwise _ (sym (c .in-Break-begins .ensures tt))); few = tt })
 
 pub returns-in-Break-check-item : need.returns-in-Break-check-item
 returns-in-Break-check-item g c =
@@ -34,7 +33,7 @@ returns-in-Break-check-item g c =
     let s = slipOf (c .in-Break-check-item .field-0 .0) in
     let unfit = refused-then (itemIn r ns (c .args .p)) (λ _. tt) s (c .in-Break-check-item .ensures tt) in
     let p = err-from-errBy (c .from-residual-in-Break-check-item .result) (c .from-residual-in-Break-check-item .ensures .1) in
-    rw (p .1, p .2) (record { said = said-refused r struct (named ns) (c .args .p) s (row-unfit r ns (c .args .p) (begins-bracket r (r .settings .«list_rows») (c .args .p) e) s unfit); few = tt })
+    rw (p .1, p .2) (record { said = said-refused r fieldwise (named ns) (c .args .p) s (row-unfit r ns (c .args .p) (begins-bracket r (r .settings .«list_rows») (c .args .p) e) s unfit); few = tt })
 
 pub returns-in-Continue-check-item : need.returns-in-Continue-check-item
 returns-in-Continue-check-item g c =
@@ -43,7 +42,7 @@ returns-in-Continue-check-item g c =
     let e : beginsAt r (r .settings .«list_rows») (c .args .p) ≡ got true = sym (c .in-Continue-begins .ensures tt) ∙ ap got (c .if-branch .taken) in
     let f = got-then (itemIn r ns (c .args .p)) (λ _. tt) tt (c .in-Continue-check-item .ensures tt) in
     record {
-      said = said-got r struct (named ns) (c .args .p) (some (f .0 ∷ [])) (row-item r ns (c .args .p) (begins-bracket r (r .settings .«list_rows») (c .args .p) e) (f .0) (f .1));
+      said = said-got r fieldwise (named ns) (c .args .p) (some (f .0 ∷ [])) (row-item r ns (c .args .p) (begins-bracket r (r .settings .«list_rows») (c .args .p) e) (f .0) (f .1));
       few = (omega arith, λ z. omega arith);
     }
 
@@ -52,4 +51,4 @@ returns-else-branch g c =
     let r = c .args .reading in
     let cs = named (g .N·NameIndex .names (c .args .self .now .index .now)) in
     let e : beginsAt r (r .settings .«list_rows») (c .args .p) ≡ got false = sym (c .in-Continue-begins .ensures tt) ∙ ap got (c .if-branch .left) in
-    record { said = said-got r struct cs (c .args .p) none (row-null r cs (c .args .p) struct e); few = (omega arith, λ z. omega arith) }
+    record { said = said-got r fieldwise cs (c .args .p) none (row-null r cs (c .args .p) fieldwise e); few = (omega arith, λ z. omega arith) }
