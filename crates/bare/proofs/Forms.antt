@@ -6,7 +6,7 @@ use lib.ListN.{length-map, length-replicate}
 use Rattle.std.proofs.lemmas.List.{map-append}
 use Rattle.std.proofs.lemmas.Bool.{eqb-true, not_from_true, not_from_false}
 use Rattle.octets.specs.Lists.{joined}
-use Rattle.slip.specs.Slips.{slip, Got, refuse, got, then, each}
+use Rattle.slip.specs.Slips.{slip, Got, refuse, got, then}
 use Rattle.tape.specs.Layout.{the}
 use Rattle.tape.specs.View.{TapeView, is_at, entries}
 use Rattle.schema.specs.Tree.{Node, Fields, Field, Branch, branch, leaf, struct, list, fixed, children_of, many, names}

@@ -1,4 +1,6 @@
 // Bare nulls: a null in a child whose flag allows none.
+#![tactic(auto)]
+
 ghost use Rattle.std.specs.Prelude.{◌≡◌, ℕ, ◌+◌, ◌*◌, ◌<◌, true, ◌||◌, length, slice_index};
 ghost use Rattle.slip.specs.Slips.{answer_of};
 ghost use Rattle.tape.specs.Layout.{the, element_count};

@@ -3,7 +3,7 @@ pub mod Tests
 pub mod Worth
 pub mod Columns
 pub mod Sized
-pub mod Hidden
+pub mod HiddenRows
 pub mod Records
 pub mod Slots
 pub mod Back

@@ -11,7 +11,7 @@ use Rattle.tape.specs.View.{TapeView, Elem, element_at, entries, is_at}
 use Rattle.leaf.specs.Bytes.{Valued}
 use Rattle.leaf.proofs.Fitted.{pile-fits}
 use Rattle.batch.specs.Suited.{Present, Fits, Counted, Sized, SizedItem}
-use Rattle.leaf.specs.Meaning.{Answer, nothing, conflict, misfit, value, lenient, fitting, shown}
+use Rattle.leaf.specs.Meaning.{Answer, fitting, shown}
 use Rattle.slip.specs.Slips.{Got, refuse, got, slip, then, accepted}
 use Rattle.batch.specs.Rows.{row_at, items_at, letter, singles}
 use Rattle.batch.specs.Values.{Setup, Item, meaning, kept, leaf_at, below}

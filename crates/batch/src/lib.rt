@@ -1,4 +1,6 @@
 // A batch: columns of row values as bytes.
+#![tactic(auto)]
+
 ghost use Rattle.batch.specs.Laws.{BatchesInFormat, BatchesFilled, BatchesReadBack, SameBytes, WholeWords, AllBytes, BatchesSpelled, TapesWorded};
 
 pub mod cell;

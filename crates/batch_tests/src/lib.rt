@@ -1,4 +1,5 @@
 // Records and cells of small batches, good ones and damaged ones.
+#![tactic(auto)]
 
 #[cfg(test)]
 mod tests {

@@ -1,4 +1,6 @@
 // Columns, written into the free part of a page.
+#![tactic(auto)]
+
 mod cells;
 mod leaves;
 pub mod offset;

@@ -1,15 +1,15 @@
 -- Leaves by their letters, and what entering a node says of its tree.
-use Rattle.std.proofs.Common.{◌≡◌, ℕ, suc, ◌+◌, ◌*◌, ◌^◌, ◌≤◌, Bool, true, false, cond, ◌||◌, ltb, List, [], ◌∷◌, length, Ok, Err, Result, sym, refl, ap, ◌∙◌, subst, arith}
+use Rattle.std.proofs.Common.{◌≡◌, ℕ, suc, ◌+◌, ◌≤◌, Bool, true, false, cond, ◌||◌, ltb, List, [], ◌∷◌, length, Ok, Err, Result, sym, refl, ap, ◌∙◌, subst, arith}
 use mathlib.Core.Option.{Option}
 use Rattle.std.proofs.lemmas.Bool.{le-ltb}
 use Rattle.slip.specs.declared.Fault.{Fault}
-use Rattle.slip.specs.Slips.{Got, refuse, got, slip, then, each, answer_of}
+use Rattle.slip.specs.Slips.{Got, refuse, got, slip, then, each}
 use Rattle.tape.specs.View.{TapeView}
 use Rattle.schema.specs.Tree.{Node, Field, Fields, LeafKind, text, boolean, custom, Branch, struct, list, fixed, branch, leaf, ◌⊕◌, many, names, children_of}
-use Rattle.schema.specs.Layout.{the, end_at}
+use Rattle.schema.specs.Layout.{the}
 use Rattle.schema.specs.Held.{Held, Limited, letter_of, wide_of, count_of}
 use Rattle.schema.specs.declared.settings.Settings.{Settings}
-use Rattle.schema.proofs.Nodes.{held_written, held_end}
+use Rattle.schema.proofs.Nodes.{held_end}
 use Rattle.leaf.specs.Meaning.{Meaning, pile}
 use Rattle.leaf.proofs.Fitted.{piles_fit_lem}
 use Rattle.batch.specs.Values.{Setup, leaf_at}
@@ -17,10 +17,10 @@ use Rattle.batch.specs.Format.{Column, text_width}
 use Rattle.batch.specs.Batch.{branch_column, leaf_column, size_of}
 use Rattle.columns.specs.Areas.{Place, space, written}
 use Rattle.columns.specs.Entering.{AllFit, LeafEntered, answers}
-use Rattle.rows.specs.Entering.{BranchEntered, Given, rows_at, items_of}
+use Rattle.rows.specs.Entering.{BranchEntered, Given, rows_at}
 use Rattle.rows.specs.declared.Entered.{Entered}
 use Rattle.nodes.specs.Nodes.{gotten, entering}
-use Rattle.nodes.specs.Contract.{setup_of, Ready, OfTree, Opened, Enters}
+use Rattle.nodes.specs.Contract.{setup_of, Ready, Opened, Enters}
 use Rattle.nodes.proofs.Gets.{then_got, space_got}
 
 -- a leaf with the letter T is a text, and so on

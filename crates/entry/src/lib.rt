@@ -1,4 +1,6 @@
 // Entering a node: its rows are read, its column is written, and its children's positions are laid out.
+#![tactic(auto)]
+
 ghost use Rattle.std.specs.Prelude.{◌≡◌, ◌^◌, ◌≤◌, length};
 ghost use Rattle.tape.specs.Opens.{Opened as TapeOpened, view_of};
 ghost use Rattle.schema.specs.Tree.{Field, Fields, LeafKind, branch, leaf, struct};

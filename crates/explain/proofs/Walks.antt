@@ -1,9 +1,9 @@
 -- The entries of a list or an object, one after another, and their texts.
-use Rattle.std.proofs.Common.{◌≡◌, ℕ, zero, suc, ◌+◌, ◌-◌, ◌<◌, ◌≤◌, true, cond, eqb, ltb, List, [], ◌∷◌, ◌++◌, map, codes, sym, refl, ap, ◌∙◌, subst, inl, inr, append_assoc, arith}
+use Rattle.std.proofs.Common.{◌≡◌, ℕ, zero, suc, ◌+◌, ◌-◌, ◌<◌, ◌≤◌, true, cond, ltb, List, [], ◌∷◌, ◌++◌, map, codes, sym, refl, ap, ◌∙◌, subst, inl, inr, append_assoc, arith}
 use native.Mathlib.Decide.{dec_lt}
 use Rattle.std.proofs.lemmas.Bool.{eqb-true, lt-ltb, le-ltb}
 use Rattle.tape.specs.Layout.{the, letter_at, number_at, next_at, offset_count}
-use Rattle.tape.specs.Grammar.{Value, Values, Pairs}
+use Rattle.tape.specs.Grammar.{Values, Pairs}
 use Rattle.tape.specs.Grammar.Leaf.{string}
 use Rattle.tape.specs.Grammar.Value.{leaf}
 use Rattle.tape.specs.Opens.{Untorn}

@@ -3,7 +3,7 @@ use Rattle.std.proofs.Common.{◌≡◌, ℕ, true, false, cond, eqb, List, code
 use Rattle.schema.specs.declared.settings.Settings.{Settings}
 use Rattle.schema.specs.Held.{letter_of}
 use Rattle.schema.specs.Layout.{the}
-use Rattle.schema.specs.Tree.{LeafKind, text, boolean, null, custom, Branch, struct, list, fixed, map, Node, branch, leaf}
+use Rattle.schema.specs.Tree.{LeafKind, text, boolean, custom, Branch, struct, list, fixed, Node, branch, leaf}
 use Rattle.explain.specs.Explanation.{word_of}
 use Rattle.explain.specs.Puts.{Puts}
 

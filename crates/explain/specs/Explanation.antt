@@ -8,7 +8,7 @@ use Rattle.tape.specs.Layout.{the}
 use Rattle.tape.specs.View.{TapeView, is_at, words_at, entries, is_position}
 use Rattle.schema.specs.declared.settings.Settings.{Settings}
 use Rattle.schema.specs.Held.{letter_of, count_of}
-use Rattle.schema.specs.Tree.{LeafKind, text, boolean, null, custom, Branch, struct, list, fixed, map, Node, branch, leaf, nodes, node_at}
+use Rattle.schema.specs.Tree.{LeafKind, text, boolean, custom, Branch, struct, list, fixed, Node, branch, leaf, nodes, node_at}
 use Rattle.explain.specs.Nested.{whole_text}
 use Rattle.explain.specs.Way.{way_to}
 

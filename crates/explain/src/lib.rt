@@ -1,4 +1,6 @@
 // The text of a fault, byte for byte as arrow-json tells it.
+#![tactic(auto)]
+
 ghost use Rattle.std.specs.Prelude.{length};
 ghost use Rattle.schema.specs.Opened.{Opened as OpenedSchema, TreeOf};
 ghost use Rattle.schema.specs.Tree.{Node};

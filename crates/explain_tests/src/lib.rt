@@ -1,4 +1,6 @@
 // Texts of faults: the expected ones are those that arrow-json 60.1.0 gave for the same schemas and tapes.
+#![tactic(auto)]
+
 #[cfg(test)]
 mod refused;
 #[cfg(test)]

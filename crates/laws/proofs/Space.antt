@@ -22,7 +22,7 @@ use Rattle.laws.specs.Laws.{takes}
 use Rattle.laws.specs.Space.{peak, peak_in}
 use Rattle.laws.proofs.Told.{Told, refused}
 use Rattle.laws.proofs.Fits.{shelve-told}
-use Rattle.batch.proofs.Hidden.{branch_columns, item-columns}
+use Rattle.batch.proofs.HiddenRows.{branch_columns, item-columns}
 
 -- an answer that is no refusal 4, and what holds of it if it is none at all
 data Clear {A : Type 0} (P : A → Type 0) : Got A → Type 0 where

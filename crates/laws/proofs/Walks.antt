@@ -1,6 +1,6 @@
 -- What a walk that is not refused ends with is where its columns end, all of them within the page and none with too many slots.
 use Rattle.std.proofs.Common.{◌≡◌, ℕ, suc, ◌+◌, ◌*◌, ◌^◌, ◌<◌, ◌≤◌, Bool, true, false, cond, ◌||◌, ltb, List, [], ◌∷◌, ◌++◌, map, length, refl, suc-mul, arith}
-use mathlib.Core.Option.{Option, none}
+use mathlib.Core.Option.{Option}
 use lib.ListN.{length-map}
 use Rattle.std.proofs.lemmas.Bool.{ltb-false}
 use Rattle.std.proofs.ByRecursion.{All-append}
@@ -11,11 +11,11 @@ use Rattle.batch.specs.Values.{NullFirst, Setup, meaning, taken, zeros, below, l
 use Rattle.slip.specs.Slips.{Slip, Got, refuse, got, slip, then, each, accepted}
 use Rattle.batch.specs.Rows.{row_at}
 use Rattle.batch.proofs.Worth.{worth, worth_item}
-use Rattle.batch.specs.Batch.{nulls, branch_column, leaf_column, columns, columns_in, size_of}
+use Rattle.batch.specs.Batch.{branch_column, leaf_column, columns, columns_in, size_of}
 use Rattle.batch.specs.Format.{Column, text_width}
 use Rattle.laws.specs.Shelf.{slots_of, room, bare, walk, walk_in}
 use Rattle.batch.proofs.Columns.{branch_slots, leaf_slots}
-use Rattle.batch.proofs.Hidden.{branch_columns, item-columns}
+use Rattle.batch.proofs.HiddenRows.{branch_columns, item-columns}
 use Rattle.batch.proofs.Records.{Few, total, total-append}
 
 -- what holds of an answer, if it is no refusal

@@ -1,4 +1,6 @@
 // The laws of a shelf: what holds of every list of calls.
+#![tactic(auto)]
+
 ghost use Rattle.laws.specs.Laws.{CustomAsked};
 ghost use Rattle.laws.specs.History.{AlwaysKept, AlwaysInFormat};
 

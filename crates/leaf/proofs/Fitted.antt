@@ -7,7 +7,7 @@ use Rattle.schema.specs.declared.settings.Settings.{Settings}
 use Rattle.tape.specs.View.{Elem, object, list, string, number, i64, i32, bool, null}
 use Rattle.leaf.specs.Bytes.{AreBytes, HoldsBytes, Valued, GivesBytes}
 use Rattle.leaf.specs.Laws.{PilesFit, PilesGiveBytes, Decimals}
-use Rattle.leaf.specs.Meaning.{Answer, nothing, conflict, misfit, value, Meaning, forgiven, lenient, written, coerced, coerce, fitting, tested, checked, when, pile, of_text, of_boolean, of_null, text_leaf, boolean_leaf, null_leaf}
+use Rattle.leaf.specs.Meaning.{Answer, nothing, conflict, misfit, value, Meaning, forgiven, lenient, written, coerced, coerce, fitting, tested, checked, when, pile, of_text, of_null, text_leaf, boolean_leaf, null_leaf}
 use Rattle.leaf.specs.declared.layout.Layout.{Layout}
 use Rattle.leaf.specs.declared.layout.Layout.TheVariants.{None, Bit, Text, Eight}
 

@@ -5,7 +5,7 @@ use Rattle.schema.specs.Tree.{LeafKind}
 use Rattle.schema.specs.declared.settings.Settings.{Settings}
 use Rattle.tape.specs.View.{Elem, object, list, string, number, i64, i32, bool, null}
 use Rattle.leaf.specs.Bytes.{GivesBytes}
-use Rattle.leaf.specs.Meaning.{Answer, nothing, conflict, misfit, value, Meaning, lenient, coerce, checked, fitting, pile}
+use Rattle.leaf.specs.Meaning.{nothing, conflict, misfit, value, Meaning, lenient, coerce, checked, fitting, pile}
 use Rattle.leaf.specs.declared.layout.Layout.TheVariants.{Text}
 
 -- Lenient turns a conflict to null, and nothing else

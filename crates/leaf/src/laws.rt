@@ -33,8 +33,8 @@ pub fn decimals_stand() -> u8
 
 // Writes the value of any leaf. What is written is bytes, so the leaf's answer is made of bytes too.
 pub fn write_bytes<L: Leaf>(leaf: &L, e: Element, out: &mut [u8])
-    requires { reply_of ((meaning leaf.now).answer (elem_of e)) ≡ Reply.Value (length out.old) }
-    ensures { Valued AreBytes ((meaning leaf.now).answer (elem_of e.entry)) }
+    requires { reply_of ((L.meaning leaf.now).answer (elem_of e)) ≡ Reply.Value (length out.old) }
+    ensures { Valued AreBytes ((L.meaning leaf.now).answer (elem_of e.entry)) }
 {
     leaf.write(e, out)
 }

@@ -1,4 +1,6 @@
 // Leaves: what a column without children makes of an element.
+#![tactic(auto)]
+
 ghost use Rattle.std.specs.Prelude.{◌≡◌, ℕ, List, length};
 ghost use Rattle.tape.specs.Values.{elem_of};
 ghost use Rattle.leaf.specs.Meaning.{Meaning, value};

@@ -1,4 +1,6 @@
 // Leaves, layers and piles, run on elements.
+#![tactic(auto)]
+
 ghost use Rattle.std.specs.Prelude.{◌≡◌, length, replicate, codes};
 ghost use Rattle.tape.specs.Values.{elem_of};
 ghost use Rattle.leaf.specs.Meaning.{nothing, value};

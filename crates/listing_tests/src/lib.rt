@@ -1,4 +1,6 @@
 // Tests of the printout's lines.
+#![tactic(auto)]
+
 #[cfg(test)]
 mod tests {
     use listing::slips::write_slip;

@@ -1,4 +1,6 @@
 // The names of fields, and where each is found.
+#![tactic(auto)]
+
 ghost use Rattle.std.specs.Prelude.{◌≡◌, ℕ, List, Decides};
 ghost use Rattle.names.specs.Lowest.{lowest};
 

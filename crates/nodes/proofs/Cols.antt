@@ -1,13 +1,13 @@
 -- A walk is an entry, then the children, and then a test; where it ends, and how many columns it writes.
-use Rattle.std.proofs.Common.{◌≡◌, ℕ, ◌+◌, ◌-◌, ◌*◌, ◌<◌, ◌≤◌, Bool, true, false, cond, ◌||◌, List, [], ◌∷◌, ◌++◌, map, length, get_or, sym, refl, ap, ◌∙◌, add-one, arith, length-append}
+use Rattle.std.proofs.Common.{◌≡◌, ℕ, ◌+◌, ◌*◌, ◌≤◌, Bool, ◌||◌, List, [], ◌∷◌, map, length, get_or, sym, refl, ap, ◌∙◌, add-one, arith, length-append}
 use mathlib.Core.Option.{Option}
 use Rattle.octets.specs.Lists.{first, rest, joined}
 use Rattle.slip.specs.Slips.{Got, refuse, got, then, each}
 use Rattle.tape.specs.View.{TapeView}
-use Rattle.schema.specs.Tree.{Node, Fields, Field, Branch, branch, leaf, ◌⊕◌, field_of, children_of, many, nodes, nodes_in}
+use Rattle.schema.specs.Tree.{Node, Fields, branch, leaf, ◌⊕◌, field_of, children_of, many, nodes, nodes_in}
 use Rattle.batch.specs.Values.{Setup, meaning, below, leaf_at}
 use Rattle.batch.specs.Format.{Column, text_width}
-use Rattle.batch.specs.Batch.{branch_column, leaf_column, size_of, buffers}
+use Rattle.batch.specs.Batch.{branch_column, leaf_column, buffers}
 use Rattle.columns.specs.Areas.{space}
 use Rattle.columns.proofs.Writes.{length-buffers, buffers-append}
 use Rattle.rows.specs.Entering.{rows_at, items_of, child_at}

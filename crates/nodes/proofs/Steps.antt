@@ -1,5 +1,5 @@
 -- The steps of a walk, over plain values.
-use Rattle.std.proofs.Common.{◌≡◌, ℕ, ◌+◌, ◌-◌, ◌*◌, ◌<◌, ◌≤◌, Bool, ◌||◌, List, [], ◌∷◌, ◌++◌, map, length, get_or, drop, replicate, IfOk, Ok, Err, Result, sym, refl, ap, ◌∙◌, subst, arith, length-append, rules}
+use Rattle.std.proofs.Common.{◌≡◌, ℕ, ◌+◌, ◌-◌, ◌*◌, ◌<◌, ◌≤◌, Bool, ◌||◌, List, ◌++◌, map, length, drop, replicate, IfOk, Ok, Err, Result, sym, ap, ◌∙◌, arith, length-append, rules}
 use Rattle.std.proofs.lemmas.List.{places, same_lists, drop-drop, drop-replicate}
 use Rattle.octets.specs.Lists.{part, splice, first, rest}
 use Rattle.slip.specs.declared.Fault.{Fault}
@@ -9,20 +9,18 @@ use Rattle.schema.specs.Tree.{Node, Fields, ◌⊕◌, field_of, children_of, ma
 use Rattle.schema.specs.Layout.{end_at}
 use Rattle.schema.specs.Held.{Held, HeldIn}
 use Rattle.schema.specs.declared.settings.Settings.{Settings}
-use Rattle.schema.proofs.Nodes.{held_written, held_children, held_first, held_rest}
-use Rattle.schema.proofs.Rows.{nodes_size}
+use Rattle.schema.proofs.Nodes.{held_written, held_first, held_rest}
 use Rattle.leaf.specs.Meaning.{Meaning}
 use Rattle.batch.specs.Values.{Setup}
-use Rattle.batch.specs.Batch.{size_of, records, buffers}
+use Rattle.batch.specs.Batch.{records, buffers}
 use Rattle.columns.specs.Areas.{written, Blank}
 use Rattle.columns.proofs.Writes.{written_none, written-append, length-written, length-records}
 use Rattle.octets.proofs.Splices.{length-splice}
-use Rattle.rows.specs.Entering.{child_at, next_of}
-use Rattle.rows.specs.declared.Entered.{Entered}
+use Rattle.rows.specs.Entering.{child_at}
 use Rattle.laws.specs.Shelf.{walk, walk_in}
-use Rattle.nodes.specs.Nodes.{below_of, own_of, items_in, entering, leaving, cols, cols_in}
-use Rattle.nodes.specs.Contract.{setup_of, OfTree, Opened, Enters, Leaves, ends_at, Walked}
-use Rattle.nodes.proofs.Cols.{child_first, child_rest, cols_unroll, length-cols, length-cols_in, walk_end, walk_unroll}
+use Rattle.nodes.specs.Nodes.{below_of, items_in, entering, leaving, cols, cols_in}
+use Rattle.nodes.specs.Contract.{setup_of, ends_at, Walked}
+use Rattle.nodes.proofs.Cols.{child_first, child_rest, length-cols, length-cols_in, walk_end, walk_unroll}
 use Rattle.nodes.proofs.Middle.{Middle}
 
 pub made_always : {A : Type 0} (r : Result A Fault) (P : Type 0) → P → IfOk r (λ _. P)

@@ -1,29 +1,28 @@
 -- A node's walk: from its entry, through its children, to the test that leaves it.
-use Rattle.std.proofs.Common.{◌≡◌, ℕ, ◌+◌, ◌-◌, ◌*◌, ◌^◌, ◌<◌, ◌≤◌, Bool, true, ◌||◌, List, [], ◌∷◌, ◌++◌, map, length, get_or, take, drop, Ok, Err, Result, sym, refl, ap, ◌∙◌, subst, mul-le-mul_right, add-mul, one-mul, arith, length-append, length-drop, get_or-drop, get_or-take}
-use mathlib.Core.Option.{Option}
+use Rattle.std.proofs.Common.{◌≡◌, ℕ, ◌+◌, ◌-◌, ◌*◌, ◌^◌, ◌<◌, ◌≤◌, Bool, true, ◌||◌, List, [], ◌∷◌, ◌++◌, length, get_or, take, drop, Ok, Err, Result, sym, refl, ap, ◌∙◌, subst, mul-le-mul_right, add-mul, one-mul, arith, length-append, length-drop, get_or-drop, get_or-take}
 use Rattle.std.specs.List.{between}
 use Rattle.std.proofs.lemmas.List.{length-take-le, get_or_append_left, take-append-le, drop-append-le}
-use Rattle.octets.specs.Lists.{part, first}
+use Rattle.octets.specs.Lists.{part}
 use Rattle.slip.specs.declared.Fault.{Fault}
-use Rattle.slip.specs.Slips.{Got, refuse, got, then, each, answer_of, slip_of}
+use Rattle.slip.specs.Slips.{refuse, got, each, answer_of, slip_of}
 use Rattle.tape.specs.View.{TapeView, is_position}
-use Rattle.schema.specs.Tree.{Node, Fields, branch, leaf, field_of, children_of, many, nodes, nodes_in}
+use Rattle.schema.specs.Tree.{Node, branch, leaf, field_of, children_of, many, nodes_in}
 use Rattle.schema.specs.Layout.{end_at}
 use Rattle.schema.specs.Held.{Held}
 use Rattle.schema.specs.declared.settings.Settings.{Settings}
 use Rattle.schema.proofs.Nodes.{held_written, held_children}
 use Rattle.schema.proofs.Rows.{nodes_size}
 use Rattle.leaf.specs.Meaning.{Meaning}
-use Rattle.batch.specs.Values.{Setup, meaning, below, leaf_at}
+use Rattle.batch.specs.Values.{Setup, meaning, leaf_at}
 use Rattle.batch.specs.Format.{text_width}
 use Rattle.batch.specs.Batch.{size_of, branch_column, leaf_column, buffers}
 use Rattle.columns.specs.Areas.{written, Blank}
-use Rattle.columns.proofs.Writes.{written-append, length_buffer, length-buffers}
-use Rattle.rows.specs.Entering.{rows_at, items_of, child_at}
+use Rattle.columns.proofs.Writes.{written-append, length_buffer}
+use Rattle.rows.specs.Entering.{rows_at, items_of}
 use Rattle.rows.specs.declared.Entered.{Entered}
-use Rattle.laws.specs.Shelf.{walk, walk_in}
-use Rattle.nodes.specs.Nodes.{gotten, below_of, own_of, items_in, entering, leaving, cols, cols_in}
-use Rattle.nodes.specs.Contract.{setup_of, Positions, Ready, OfTree, Opened, Enters, Lies, Lying, Leaves, ends_at, Walked}
+use Rattle.laws.specs.Shelf.{walk_in}
+use Rattle.nodes.specs.Nodes.{gotten, below_of, own_of, items_in, entering, leaving, cols_in}
+use Rattle.nodes.specs.Contract.{setup_of, Positions, Ready, OfTree, Enters, Lying, Leaves, ends_at, Walked}
 use Rattle.nodes.proofs.Gets.{then_got, space_got}
 use Rattle.nodes.proofs.Cols.{cols_unroll, length-cols_in}
 use Rattle.nodes.proofs.Middle.{Middle}

@@ -1,7 +1,7 @@
 -- What an accepted walk writes are the columns of the values at its positions.
-use Rattle.std.proofs.Common.{◌≡◌, ℕ, ◌+◌, ◌*◌, ◌≤◌, Bool, ◌||◌, List, [], ◌∷◌, ◌++◌, map, length, sym, refl, ap, ◌∙◌, arith}
+use Rattle.std.proofs.Common.{◌≡◌, ℕ, ◌+◌, ◌*◌, Bool, ◌||◌, List, [], ◌∷◌, ◌++◌, map, length, sym, refl, ap, ◌∙◌, arith}
 use mathlib.Core.Option.{Option}
-use Rattle.octets.specs.Lists.{joined, first, rest}
+use Rattle.octets.specs.Lists.{first, rest}
 use Rattle.slip.specs.Slips.{Got, refuse, got, then, each, accepted}
 use Rattle.tape.specs.View.{TapeView}
 use Rattle.schema.specs.Tree.{Node, Fields, branch, leaf, ◌⊕◌, field_of, many}
@@ -10,7 +10,7 @@ use Rattle.batch.specs.Values.{NullFirst, Setup, meaning, below, leaf_at}
 use Rattle.batch.specs.Format.{Column, text_width}
 use Rattle.batch.specs.Batch.{branch_column, leaf_column, columns, columns_in}
 use Rattle.batch.proofs.Worth.{worth, worth_item}
-use Rattle.batch.proofs.Hidden.{branch_columns, item-columns}
+use Rattle.batch.proofs.HiddenRows.{branch_columns, item-columns}
 use Rattle.rows.specs.Entering.{rows_at, items_of}
 use Rattle.laws.specs.Shelf.{room, walk, walk_in}
 use Rattle.nodes.specs.Nodes.{gotten, cols, cols_in}

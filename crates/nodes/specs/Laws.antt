@@ -1,6 +1,6 @@
 -- What an accepted walk writes.
-use Rattle.std.specs.Prelude.{◌≡◌, ℕ, Bool, true, List, map}
-use Rattle.slip.specs.Slips.{Got, got, each}
+use Rattle.std.specs.Prelude.{◌≡◌, ℕ, Bool, true, List}
+use Rattle.slip.specs.Slips.{got, each}
 use Rattle.octets.specs.Lists.{all}
 use Rattle.tape.specs.View.{TapeView}
 use Rattle.schema.specs.Tree.{Node}

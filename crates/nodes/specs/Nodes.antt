@@ -1,5 +1,5 @@
 -- A node by itself: what entering it gives, and what leaving it tests.
-use Rattle.std.specs.Prelude.{ℕ, ◌+◌, ◌*◌, Bool, false, cond, ◌||◌, List, [], ◌∷◌, ◌++◌, map, length}
+use Rattle.std.specs.Prelude.{ℕ, ◌*◌, Bool, false, cond, ◌||◌, List, [], ◌∷◌, ◌++◌, map, length}
 use Rattle.std.proofs.Math.Option.{Option}
 use Rattle.octets.specs.Lists.{joined, first, rest}
 use Rattle.slip.specs.Slips.{Got, refuse, got, then, each}

@@ -1,4 +1,6 @@
 // A node by itself: what entering it, leaving it and walking it and those below it mean.
+#![tactic(auto)]
+
 ghost use Rattle.nodes.specs.Laws.{ColumnsOfValues};
 
 use schema::Schema;

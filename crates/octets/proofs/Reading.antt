@@ -1,6 +1,6 @@
 -- Numbers read from bytes, byte by byte.
-use Rattle.std.proofs.Common.{◌≡◌, ℕ, zero, suc, ◌+◌, ◌*◌, ◌^◌, ◌<◌, ◌≤◌, List, [], ◌∷◌, length, get_or, drop, sym, refl, ap, ◌∙◌, arith}
-use Rattle.octets.specs.Numbers.{number, le_at}
+use Rattle.std.proofs.Common.{◌≡◌, ℕ, zero, suc, ◌+◌, ◌*◌, List, [], ◌∷◌, get_or, refl, ap, arith}
+use Rattle.octets.specs.Numbers.{le_at}
 
 pub le_at_none : (w i : ℕ) → le_at w [] i ≡ 0
 le_at_none zero i = refl

@@ -1,4 +1,6 @@
 // Numbers in byte slices, least byte first, and what it takes to write them.
+#![tactic(auto)]
+
 ghost use Rattle.std.specs.Prelude.{◌≡◌, ◌+◌, ◌-◌, ◌/◌, ◌<◌, ◌≤◌, length, replicate};
 ghost use Rattle.octets.specs.Lists.{splice};
 ghost use Rattle.octets.specs.Numbers.{le, le_at, with_bit, NumbersBack, BitsBack, SpareBits, BitSet};

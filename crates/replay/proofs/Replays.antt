@@ -1,26 +1,25 @@
 -- Calls, one after another.
-use Rattle.std.proofs.Common.{◌≡◌, ℕ, ◌+◌, ◌-◌, ◌%◌, ◌^◌, ◌<◌, ◌≤◌, min, ◌⊎◌, List, [], ◌∷◌, ◌++◌, map, length, get_or, take, drop, set, Ok, Err, sym, refl, ap, ◌∙◌, subst, ap₂, inl, inr, add-one, arith, length-append, take_all, drop-drop, drop-set-lt}
+use Rattle.std.proofs.Common.{◌≡◌, ℕ, ◌+◌, ◌<◌, ◌≤◌, min, List, [], ◌∷◌, ◌++◌, map, length, take, drop, set, sym, refl, ap, ◌∙◌, subst, ap₂, inl, inr, arith, take_all, drop-drop, drop-set-lt}
 use Rattle.std.specs.List.{AllByRecursion as All}
 use Rattle.std.proofs.lemmas.List.{map-append, take_more_set}
-use Rattle.slip.specs.declared.Fault.{Fault}
-use Rattle.slip.specs.Slips.{Slip, Got, refuse, got, then, slip, slip_of, answer_of}
-use Rattle.schema.specs.Tree.{Node, WellFormed}
+use Rattle.slip.specs.Slips.{Slip, Got, refuse, got, then, slip}
+use Rattle.schema.specs.Tree.{Node}
 use Rattle.schema.specs.Opens.{Opens as Tree}
 use Rattle.schema.specs.declared.settings.Settings.{Settings}
 use Rattle.schema.proofs.Nodes.{all_formed}
-use Rattle.tape.specs.View.{TapeView, view}
+use Rattle.tape.specs.View.{TapeView}
 use Rattle.tape.specs.Opens.{Untorn}
 use Rattle.leaf.specs.Meaning.{Meaning}
 use Rattle.batch.specs.Values.{Setup, Value}
 use Rattle.batch.specs.Cells as Batch
 use Rattle.batch.specs.Cells.{cell_of, triple}
-use Rattle.laws.specs.Shelf.{Held, page, shelve}
-use Rattle.laws.specs.Calls.{Call, Shelve, Torn, Cell, Release, Count, Reply, batch, cell, answer, after, run}
+use Rattle.laws.specs.Shelf.{Held, shelve}
+use Rattle.laws.specs.Calls.{Call, Shelve, Torn, batch, cell, answer, after, run}
 use Rattle.laws.specs.History.{FromOpened}
 use Rattle.laws.proofs.Past.{always_kept_lem, always_in_format_lem}
 use Rattle.nodes.specs.Contract.{setup_of}
 use Rattle.shelf.specs.Standing.{HoldsIn, DoesIn, Standing}
-use Rattle.replay.specs.Replay.{said, ShelveFrom, Asks, AllAsk, replies, Makes, Law, Replayed}
+use Rattle.replay.specs.Replay.{said, ShelveFrom, Asks, AllAsk, replies, Makes, Replayed}
 use Rattle.shelf.specs.declared.Shelf.{Shelf}
 use Rattle.shelf.proofs.Holding.{page_size}
 use Rattle.replay.specs.declared.Call.{Call as Line}

@@ -1,5 +1,5 @@
 -- The law of a list of calls on one new shelf.
-use Rattle.std.specs.Prelude.{◌≡◌, ℕ, ◌+◌, ◌%◌, ◌^◌, ◌<◌, ◌≤◌, min, ◌⊎◌, List, [], ◌∷◌, ◌++◌, map, length, take, drop, Ok, Err, Result, ◌≢◌}
+use Rattle.std.specs.Prelude.{◌≡◌, ℕ, ◌%◌, ◌^◌, ◌<◌, ◌≤◌, min, ◌⊎◌, List, [], ◌∷◌, ◌++◌, map, length, take, drop, Ok, Err, Result, ◌≢◌}
 use Rattle.slip.specs.declared.Fault.{Fault}
 use Rattle.slip.specs.Slips.{Got, refuse, got, slip, slip_of}
 use Rattle.schema.specs.Tree.{Node}

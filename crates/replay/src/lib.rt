@@ -1,4 +1,6 @@
 // A list of calls on one new shelf, from raw bytes.
+#![tactic(auto)]
+
 ghost use Rattle.std.specs.Prelude.{◌≡◌, ℕ, ◌+◌, ◌<◌, ◌≤◌, length};
 ghost use Rattle.slip.specs.Slips.{answer_of, then, got};
 ghost use Rattle.schema.specs.Opened.{records_of, names_of};

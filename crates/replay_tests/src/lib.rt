@@ -1,4 +1,5 @@
 // Calls on a new shelf, from raw bytes.
+#![tactic(auto)]
 
 #[cfg(test)]
 mod tests {

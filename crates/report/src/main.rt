@@ -1,4 +1,6 @@
 // Reports on dumps: what opens is listed, and what does not open is told with its slip.
+#![tactic(auto)]
+
 mod dumps;
 
 use anyhow::anyhow;

@@ -1,5 +1,5 @@
 -- What the spans of a branch are told of its rows.
-use Rattle.std.proofs.Common.{◌≡◌, ℕ, ◌*◌, ◌^◌, ◌<◌, ◌≤◌, true, false, not, ◌⊎◌, List, [], ◌∷◌, map, length, sym, refl, ◌∙◌, subst, ⊎_elim, mul-le-mul_right, arith, length-append}
+use Rattle.std.proofs.Common.{◌≡◌, ℕ, ◌*◌, ◌^◌, ◌<◌, ◌≤◌, true, false, not, List, [], ◌∷◌, map, length, sym, refl, ◌∙◌, subst, ⊎_elim, mul-le-mul_right, arith, length-append}
 use mathlib.Core.Option.{none, some}
 use Rattle.octets.specs.Lists.{joined, sum, or_else, is_some}
 use Rattle.schema.specs.Tree.{Branch, Fields, struct, list, fixed}

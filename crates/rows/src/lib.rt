@@ -1,4 +1,6 @@
 // The rows of a branch: read, refused or accepted, and turned into the positions of its children.
+#![tactic(auto)]
+
 ghost use Rattle.std.specs.Prelude.{◌≡◌, ℕ, ◌^◌, ◌<◌, ◌≤◌, true, false, length, ◌==◌, slice_index};
 ghost use Rattle.tape.specs.Opens.{Opened, view_of};
 ghost use Rattle.tape.specs.View.{is_position};

@@ -31,12 +31,12 @@ pub(crate) fn count_rows<K: RowKind>(
     reading: Reading<'_>,
     rows: &[u32],
 ) -> Result<Counted, Fault>
-    requires ready { ready kind.now }
+    requires ready { K.ready kind.now }
     requires opened { Opened reading.tape }
     requires positions { (i : ℕ) → i < length rows.now → is_position (view_of reading.tape) (slice_index rows.now i) ≡ true }
     requires few { length rows.now ≤ 2 ^ 24 }
-    ensures said { answer_of result ≡ then (each (row_in reading.entry (branch kind.now) (children kind.now)) rows.now) (λ os. got (counts_of (branch kind.now) (children kind.now) os)) }
-    ensures few { IfOk result (λ n. (n.items ≤ 2 ^ 48) × (n.nulls ≤ 2 ^ 24) × (many (children kind.now) ≡ 0 → n.items ≤ 2 ^ 24)) }
+    ensures said { answer_of result ≡ then (each (row_in reading.entry (K.branch kind.now) (K.children kind.now)) rows.now) (λ os. got (counts_of (K.branch kind.now) (K.children kind.now) os)) }
+    ensures few { IfOk result (λ n. (n.items ≤ 2 ^ 48) × (n.nulls ≤ 2 ^ 24) × (many (K.children kind.now) ≡ 0 → n.items ≤ 2 ^ 24)) }
 {
     let mut items = 0;
     let mut nulls = 0;
@@ -58,17 +58,17 @@ pub(crate) fn fill_rows<K: RowKind, O: OffsetSize>(
     stride: usize,
     out: &mut [u8],
 )
-    requires ready { ready kind.now }
+    requires ready { K.ready kind.now }
     requires opened { Opened reading.tape }
     requires positions { (i : ℕ) → i < length rows.now → is_position (view_of reading.tape) (slice_index rows.now i) ≡ true }
-    requires accepted { is_got (each (row_in reading (branch kind.now) (children kind.now)) rows.now) ≡ true }
-    requires all { length (joined (map (items_in reading (branch kind.now) (children kind.now)) rows.now)) ≡ stride }
-    requires lent { many (children kind.now) * stride ≤ length work.old }
+    requires accepted { is_got (each (row_in reading (K.branch kind.now) (K.children kind.now)) rows.now) ≡ true }
+    requires all { length (joined (map (items_in reading (K.branch kind.now) (K.children kind.now)) rows.now)) ≡ stride }
+    requires lent { many (K.children kind.now) * stride ≤ length work.old }
     requires small { stride < 2 ^ 31 }
-    requires spans { Suited O.OffsetSize.width (branch kind.now) spans out.old (map (row_there reading (branch kind.now) (children kind.now)) rows.now) }
-    ensures filled { Filled (many (children kind.now)) stride 0 (joined (map (items_in reading.entry (branch kind.now) (children kind.now)) rows.now)) work.old work.new }
-    ensures positions { Positions (view_of reading.entry.tape) (joined (map (items_in reading.entry (branch kind.now) (children kind.now)) rows.now)) }
-    ensures written { out.new ≡ buffers (branch_column (branch kind.now) (map (row_there reading.entry (branch kind.now) (children kind.now)) rows.now) ∷ []) }
+    requires spans { Suited O.OffsetSize.width (K.branch kind.now) spans out.old (map (row_there reading (K.branch kind.now) (K.children kind.now)) rows.now) }
+    ensures filled { Filled (many (K.children kind.now)) stride 0 (joined (map (items_in reading.entry (K.branch kind.now) (K.children kind.now)) rows.now)) work.old work.new }
+    ensures positions { Positions (view_of reading.entry.tape) (joined (map (items_in reading.entry (K.branch kind.now) (K.children kind.now)) rows.now)) }
+    ensures written { out.new ≡ buffers (branch_column (K.branch kind.now) (map (row_there reading.entry (K.branch kind.now) (K.children kind.now)) rows.now) ∷ []) }
 {
     let mut at = 0;
     for (slot, p) in rows.iter().enumerate() {
@@ -88,14 +88,14 @@ pub(crate) fn enter<K: RowKind, O: OffsetSize>(
     area: &mut [u8],
     top: usize,
 ) -> Result<Entered, Fault>
-    requires ready { ready kind.now }
+    requires ready { K.ready kind.now }
     requires opened { Opened reading.tape }
     requires positions { (i : ℕ) → i < length rows.now → is_position (view_of reading.tape) (slice_index rows.now i) ≡ true }
     requires few { length rows.now ≤ 2 ^ 24 }
     requires lent { length work.old ≤ 2 ^ 24 }
     requires place { Place area.old reading.node top }
-    requires suits { Suits O.OffsetSize.width (branch kind.now) }
-    ensures { BranchEntered reading.entry.settings (view_of reading.entry.tape) (numbered reading.entry.node) (branch kind.now) (children kind.now) reading.entry.in_force rows.now top area.old area.new work.old work.new result }
+    requires suits { Suits O.OffsetSize.width (K.branch kind.now) }
+    ensures { BranchEntered reading.entry.settings (view_of reading.entry.tape) (numbered reading.entry.node) (K.branch kind.now) (K.children kind.now) reading.entry.in_force rows.now top area.old area.new work.old work.new result }
 {
     let counted = count_rows(kind, reading, rows)?;
     let kids = kind.kids();

@@ -1,6 +1,6 @@
 -- What node a letter names.
 use Rattle.std.proofs.Common.{◌≡◌, ℕ, Bool, true, false, cond, eqb, sym, refl, ap, ◌∙◌}
-use Rattle.schema.specs.Tree.{Field, LeafKind, text, boolean, null, custom, Branch, struct, list, fixed, map, Node, branch, leaf, Fields, field_of, children_of}
+use Rattle.schema.specs.Tree.{Field, LeafKind, text, boolean, custom, Branch, struct, list, fixed, Node, branch, leaf, Fields, field_of, children_of}
 use Rattle.schema.specs.Layout.{the}
 use Rattle.schema.specs.Held.{letter_of, wide_of, count_of}
 

@@ -1,6 +1,6 @@
 -- Trees that stand one after another.
 use Rattle.std.proofs.Common.{◌≡◌, ℕ, zero, suc, ◌+◌, ◌-◌, ◌<◌, ◌≤◌, true, false, eqb, List, length, Some, None, Option, sym, refl, ap, ◌∙◌, subst, arith, length-append}
-use Rattle.schema.specs.Tree.{Field, LeafKind, text, boolean, null, custom, Branch, struct, list, fixed, map, Node, branch, leaf, Fields, none, ◌⊕◌, field_of, children_of, many, nodes, nodes_in, levels, levels_in, Childed}
+use Rattle.schema.specs.Tree.{Field, LeafKind, text, boolean, custom, Branch, struct, list, fixed, Node, branch, leaf, Fields, ◌⊕◌, field_of, children_of, many, nodes, nodes_in, levels, levels_in, Childed}
 use Rattle.schema.specs.Layout.{flag_at, end_at, name_at}
 use Rattle.schema.specs.Held.{letter_of, wide_of, count_of, Limited, bit, Held, HeldIn}
 use Rattle.schema.specs.Held.Held.{node}

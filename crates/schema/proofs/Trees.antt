@@ -1,6 +1,6 @@
 -- Records hold at most one tree.
-use Rattle.std.proofs.Common.{◌≡◌, ℕ, ◌+◌, ◌-◌, ◌≤◌, Bool, true, false, cond, eqb, List, length, sym, refl, ap, ◌∙◌, subst, arith}
-use Rattle.schema.specs.Tree.{Field, LeafKind, text, boolean, null, custom, Branch, struct, list, fixed, map, Node, branch, leaf, Fields, ◌⊕◌, field_of, children_of, many, nodes, Childed}
+use Rattle.std.proofs.Common.{◌≡◌, ℕ, ◌+◌, ◌≤◌, Bool, true, false, cond, eqb, List, length, sym, refl, ap, ◌∙◌, subst, arith}
+use Rattle.schema.specs.Tree.{Field, LeafKind, text, boolean, custom, Branch, struct, list, fixed, Node, branch, leaf, Fields, ◌⊕◌, field_of, children_of, many, nodes, Childed}
 use Rattle.schema.specs.Layout.{the, letter_at, flag_at, wide_at, count_at}
 use Rattle.schema.specs.Held.{letter_of, wide_of, count_of, Limited, bit, Written, Held, HeldIn}
 use Rattle.schema.specs.Held.Held.{node}

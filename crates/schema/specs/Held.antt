@@ -1,6 +1,6 @@
 -- When records hold a tree.
 use Rattle.std.specs.Prelude.{◌≡◌, ℕ, ◌+◌, ◌<◌, ◌≤◌, Bool, true, false, cond, List, length, IsUtf8}
-use Rattle.schema.specs.Tree.{LeafKind, text, boolean, null, custom, Branch, struct, list, fixed, map, Node, branch, leaf, Fields, none, ◌⊕◌, field_of, children_of, many, nodes, Childed}
+use Rattle.schema.specs.Tree.{LeafKind, text, boolean, custom, Branch, struct, list, fixed, Node, branch, leaf, Fields, ◌⊕◌, field_of, children_of, many, nodes, Childed}
 use Rattle.schema.specs.Layout.{the, record_count, letter_at, flag_at, wide_at, spare_at, end_at, start_at, size_at, name_at, count_at}
 
 -- the letter of a node

@@ -1,4 +1,6 @@
 // A schema: the tree of a batch's columns, held in records of sixteen bytes over the bytes of its names.
+#![tactic(auto)]
+
 ghost use Rattle.std.specs.Prelude.{◌≡◌, ◌+◌, ◌^◌, ◌<◌, ◌≤◌, length, IsUtf8, ◌==◌};
 ghost use Rattle.schema.specs.Layout.{record_count, letter_at, flag_at, wide_at, end_at, start_at, size_at, name_at, count_at};
 ghost use Rattle.schema.specs.Held.{letter_of, wide_of, count_of};

@@ -1,4 +1,6 @@
 // Small schemas, opened and looked up.
+#![tactic(auto)]
+
 ghost use Rattle.std.specs.Prelude.{◌<◌, ◌≤◌};
 ghost use Rattle.schema.specs.Opened.{Opened};
 

@@ -1,5 +1,5 @@
 -- What Shelve adds to what a shelf holds.
-use Rattle.std.proofs.Common.{◌≡◌, ℕ, ◌+◌, ◌-◌, ◌*◌, ◌^◌, ◌<◌, ◌≤◌, Bool, true, false, cond, ◌||◌, ltb, List, [], ◌∷◌, ◌++◌, map, length, get_or, take, drop, set, replicate, Ok, Err, sym, refl, ap, ◌∙◌, subst, ap₂, inl, inr, zero-add, arith, length-append, length-drop, length-set, take-append-drop, get_or-set_other, get_or-set_same, drop-drop}
+use Rattle.std.proofs.Common.{◌≡◌, ℕ, ◌+◌, ◌-◌, ◌*◌, ◌^◌, ◌<◌, ◌≤◌, false, cond, ◌||◌, ltb, List, [], ◌∷◌, ◌++◌, length, get_or, take, drop, set, replicate, Ok, Err, sym, refl, ap, ◌∙◌, subst, ap₂, inl, inr, zero-add, arith, length-append, length-drop, length-set, take-append-drop, get_or-set_other, get_or-set_same, drop-drop}
 use borrow.Rule.Slice.PartMut.{put_mid}
 use borrow.Rule.Slice.PartAt.{part_to_end}
 use lib.Seq.{take-length, take-append-le}
@@ -7,8 +7,7 @@ use Rattle.std.proofs.lemmas.List.{append-nil, at_drop_all}
 use Rattle.std.proofs.lemmas.Bool.{ltb-false, or_parts, cases_lt}
 use Rattle.slip.specs.declared.Fault.{Fault}
 use Rattle.slip.specs.Slips.{Slip, slip, slip_of, Got, refuse, got, then, answer_of}
-use Rattle.octets.specs.Lists.{splice}
-use Rattle.octets.proofs.Splices.{splice-part, length-splice}
+use Rattle.octets.proofs.Splices.{splice-part}
 use Rattle.schema.specs.Tree.{field_of, nodes}
 use Rattle.schema.specs.declared.Schema.{Schema}
 use Rattle.tape.specs.View.{TapeView}
@@ -19,7 +18,7 @@ use Rattle.laws.specs.Calls.{Shelve, after}
 use Rattle.laws.proofs.Pages.{used_push, page_push}
 use Rattle.nodes.proofs.Cols.{walk_end}
 use Rattle.shelf.specs.Standing.{start_in, Holds, Does, Writes}
-use Rattle.shelf.proofs.Holding.{page_size, used_is, free_is, free_zero, used-fits}
+use Rattle.shelf.proofs.Holding.{used_is, free_is, free_zero, used-fits}
 
 -- a new end of a slice
 pub put_back : (xs : List ℕ) (a : ℕ) (ys : List ℕ) → a ≤ length xs → length ys ≡ length xs - a → put_mid a (length xs - a) xs ys ≡ take a xs ++ ys

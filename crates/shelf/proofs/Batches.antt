@@ -1,9 +1,8 @@
 -- What a walk from the root leaves in the free part of a page.
-use Rattle.std.proofs.Common.{◌≡◌, ℕ, ◌+◌, ◌-◌, ◌*◌, ◌^◌, ◌<◌, ◌≤◌, Bool, true, false, cond, List, [], ◌∷◌, ◌++◌, map, length, get_or, take, drop, replicate, Ok, Err, Result, sym, refl, ap, ◌∙◌, subst, ap₂, zero-add, arith, length-append}
-use lib.ListN.{length-replicate, replicate-append-replicate}
+use Rattle.std.proofs.Common.{◌≡◌, ℕ, ◌+◌, ◌-◌, ◌*◌, ◌≤◌, true, false, List, ◌++◌, map, length, drop, replicate, Ok, Err, sym, ap, ◌∙◌, subst, ap₂, zero-add, arith, length-append}
 use Rattle.std.proofs.lemmas.List.{drop-replicate}
 use Rattle.slip.specs.declared.Fault.{Fault}
-use Rattle.slip.specs.Slips.{Got, refuse, got, answer_of, each}
+use Rattle.slip.specs.Slips.{got, answer_of}
 use Rattle.octets.specs.Lists.{splice, all}
 use Rattle.octets.proofs.Splices.{splice_join}
 use Rattle.tape.specs.View.{TapeView}
@@ -13,12 +12,12 @@ use Rattle.schema.specs.Opens.{Opens}
 use Rattle.schema.specs.declared.settings.Settings.{Settings}
 use Rattle.leaf.specs.Meaning.{Meaning}
 use Rattle.batch.specs.Format.{Column}
-use Rattle.batch.specs.Values.{Setup, Value, NullFirst, value, fits}
-use Rattle.batch.specs.Batch.{columns, records, buffers, batch, bytes_of}
+use Rattle.batch.specs.Values.{Value, NullFirst, value, fits}
+use Rattle.batch.specs.Batch.{columns, records, buffers, batch}
 use Rattle.batch.proofs.Worth.{worth, worth_is, each_got}
 use Rattle.columns.specs.Areas.{written, Blank}
 use Rattle.columns.proofs.Writes.{length-records}
-use Rattle.laws.specs.Shelf.{walk, rows_of}
+use Rattle.laws.specs.Shelf.{walk}
 use Rattle.laws.proofs.Told.{Told, told_got}
 use Rattle.laws.proofs.Fits.{walk-told}
 use Rattle.nodes.specs.Nodes.{cols}

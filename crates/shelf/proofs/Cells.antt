@@ -1,9 +1,9 @@
 -- Cell, where there are such a batch and node.
-use Rattle.std.proofs.Common.{◌≡◌, ℕ, ◌+◌, ◌-◌, ◌<◌, ◌≤◌, cond, ltb, List, [], length, get_or, take, drop, sym, refl, ap, ◌∙◌, ap₂, arith}
+use Rattle.std.proofs.Common.{◌≡◌, ℕ, ◌+◌, ◌-◌, ◌<◌, cond, List, [], length, get_or, take, sym, ap, ◌∙◌, ap₂, arith}
 use Rattle.std.proofs.lemmas.Bool.{lt-ltb}
 use Rattle.slip.specs.Slips.{Got, refuse, got, then, not_there}
 use Rattle.octets.specs.Lists.{part}
-use Rattle.schema.specs.Tree.{Node, nodes, node_at}
+use Rattle.schema.specs.Tree.{nodes, node_at}
 use Rattle.schema.specs.declared.Schema.{Schema}
 use Rattle.batch.specs.Values.{Setup}
 use Rattle.batch.specs.Batch.{bytes_of}

@@ -1,19 +1,18 @@
 -- What is known of a shelf from what it holds.
-use Rattle.std.proofs.Common.{◌≡◌, ℕ, zero, suc, ◌+◌, ◌-◌, ◌*◌, ◌%◌, ◌^◌, ◌<◌, ◌≤◌, Bool, true, false, cond, ◌||◌, eqb, ltb, List, [], ◌∷◌, ◌++◌, map, length, get_or, take, drop, replicate, sym, refl, ap, ◌∙◌, ap₂, arith, length-append, length-take, length-take-le, take-take, drop_at}
+use Rattle.std.proofs.Common.{◌≡◌, ℕ, zero, suc, ◌+◌, ◌-◌, ◌*◌, ◌%◌, ◌^◌, ◌<◌, ◌≤◌, false, cond, ltb, List, [], ◌∷◌, ◌++◌, map, length, get_or, take, drop, replicate, sym, refl, ap, ◌∙◌, ap₂, arith, length-append, length-take-le, take-take, drop_at}
 use lib.Dec.{eqb-suc-zero}
 use lib.ListN.{length-replicate, replicate-append-replicate}
 use lib.Seq.{take-length}
-use Rattle.std.proofs.lemmas.List.{drop-replicate}
-use Rattle.std.proofs.lemmas.Bool.{lt-ltb, le-ltb, ne_eqb, eq-eqb}
-use Rattle.slip.specs.Slips.{refuse, got, answer_of, not_there}
+use Rattle.std.proofs.lemmas.Bool.{le-ltb, ne_eqb, eq-eqb}
+use Rattle.slip.specs.Slips.{refuse, got, not_there}
 use Rattle.octets.specs.Lists.{joined, splice, part}
 use Rattle.schema.specs.Tree.{nodes}
 use Rattle.schema.specs.declared.Schema.{Schema}
-use Rattle.batch.specs.Values.{Setup, Value}
+use Rattle.batch.specs.Values.{Setup}
 use Rattle.batch.specs.Batch.{bytes_of}
-use Rattle.laws.specs.Shelf.{Held, page, used, is_full}
+use Rattle.laws.specs.Shelf.{Held, used, is_full}
 use Rattle.laws.specs.Calls.{Release, release}
-use Rattle.laws.proofs.Pages.{used-take, used_push, start_next, lies, page-take, rows_in}
+use Rattle.laws.proofs.Pages.{used-take, start_next, lies, page-take}
 use Rattle.schema.specs.Opened.{TreeOf}
 use Rattle.shelf.specs.Standing.{start_in, Holds, Does, Fresh}
 

@@ -1,7 +1,7 @@
 -- The first entry that is no position.
-use Rattle.std.proofs.Common.{◌≡◌, ℕ, zero, suc, ◌+◌, ◌<◌, ◌≤◌, Bool, true, false, cond, List, [], ◌∷◌, length, get_or, drop, sym, refl, ap, ◌∙◌, ap₂, le_of_suc-le-suc, add-one, arith, drop-cons}
+use Rattle.std.proofs.Common.{◌≡◌, ℕ, zero, suc, ◌+◌, ◌<◌, ◌≤◌, Bool, true, false, cond, List, [], ◌∷◌, length, get_or, drop, sym, refl, ap, ◌∙◌, le_of_suc-le-suc, add-one, arith, drop-cons}
 use Rattle.std.proofs.lemmas.List.{at_drop_all}
-use Rattle.slip.specs.Slips.{Got, refuse, got, slip}
+use Rattle.slip.specs.Slips.{refuse, got, slip}
 use Rattle.tape.specs.View.{TapeView, is_position}
 use Rattle.laws.specs.Shelf.{bad_position}
 use Rattle.nodes.specs.Contract.{Positions}

@@ -1,9 +1,8 @@
 -- The shape of a node, by what its record says.
-use Rattle.std.proofs.Common.{◌≡◌, ℕ, Bool, true, false, cond, eqb, sym, refl, ap, ◌∙◌, arith}
+use Rattle.std.proofs.Common.{◌≡◌, ℕ, Bool, true, false, cond, eqb, refl, ap}
 use Rattle.schema.specs.Tree.{Node, LeafKind, Branch, branch, leaf, struct, list, fixed}
 use Rattle.schema.specs.Layout.{the}
 use Rattle.schema.specs.Held.{letter_of, wide_of, count_of}
-use Rattle.schema.specs.declared.settings.Settings.{Settings}
 use Rattle.leaf.specs.Meaning.{when, lenient, coerce, checked, text_leaf, boolean_leaf, null_leaf}
 use Rattle.leaf.specs.declared.layout.Layout.{Layout}
 use Rattle.leaf.specs.declared.layout.Layout.TheVariants.{None, Bit, Text}

@@ -1,12 +1,11 @@
 -- What a shelf holds, by its fields, and what its calls promise.
-use Rattle.std.specs.Prelude.{◌≡◌, ℕ, ◌+◌, ◌-◌, ◌*◌, ◌%◌, ◌^◌, ◌<◌, ◌≤◌, true, false, cond, List, [], length, take, replicate, IfOk, IfErr, Ok, Err, Result, ◌==◌, ◌≢◌, slice_index}
+use Rattle.std.specs.Prelude.{◌≡◌, ℕ, ◌+◌, ◌-◌, ◌*◌, ◌%◌, ◌^◌, ◌<◌, ◌≤◌, false, cond, List, length, take, replicate, IfOk, IfErr, Ok, Err, Result, ◌==◌, ◌≢◌, slice_index}
 use Rattle.slip.specs.declared.Fault.{Fault}
 use Rattle.slip.specs.Slips.{Got, got, answer_of, slip, slip_of}
 use Rattle.octets.specs.Lists.{splice}
 use Rattle.schema.specs.Tree.{Node, LeafKind, branch, leaf, field_of, nodes}
 use Rattle.schema.specs.Opened.{TreeOf}
 use Rattle.schema.specs.declared.Schema.{Schema}
-use Rattle.schema.specs.declared.settings.Settings.{Settings}
 use Rattle.tape.specs.View.{TapeView}
 use Rattle.leaf.specs.Meaning.{Meaning}
 use Rattle.leaf.specs.declared.layout.Layout.{Layout}

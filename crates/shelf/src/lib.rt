@@ -1,4 +1,6 @@
 // A shelf: a page of bytes that holds batches end to end.
+#![tactic(auto)]
+
 ghost use Rattle.std.specs.Prelude.{◌≡◌, ℕ, ◌+◌, ◌-◌, ◌*◌, ◌^◌, ◌<◌, ◌≤◌, [], length, set, replicate, slice_index};
 ghost use Rattle.slip.specs.Slips.{answer_of, then, got};
 ghost use Rattle.tape.specs.Opens.{Opened as TapeOpened, view_of};

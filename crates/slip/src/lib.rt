@@ -1,4 +1,6 @@
 // Why a call is refused: one fault for each of the twelve refusals.
+#![tactic(auto)]
+
 ghost use Rattle.std.specs.Prelude.{◌≡◌};
 ghost use Rattle.slip.specs.Slips.{slip_of};
 

@@ -1,4 +1,6 @@
 // A tape: a JSON text flattened to elements, with its texts and where each begins.
+#![tactic(auto)]
+
 ghost use Rattle.std.specs.Prelude.{◌≡◌, ◌+◌, ◌*◌, ◌^◌, ◌<◌, true, ◌||◌, length};
 ghost use Rattle.tape.specs.Answer.{OpensTo};
 ghost use Rattle.tape.specs.Elements.{tape_element_at, LetterLaw};

@@ -1,4 +1,6 @@
 // Tapes that open, tapes that are torn, and what is read from them.
+#![tactic(auto)]
+
 ghost use Rattle.std.specs.Prelude.{◌<◌};
 ghost use Rattle.tape.specs.Opens.{Opened};
 

@@ -1,4 +1,6 @@
 // A leaf of decimal numbers, rounded to thousandths.
+#![tactic(auto)]
+
 ghost use Rattle.std.specs.Prelude.{◌≡◌, codes};
 ghost use Rattle.tape.specs.Values.{elem_of};
 ghost use Rattle.leaf.specs.declared.layout.Layout.{Layout};

@@ -1,4 +1,6 @@
 // The walk: a node's rows are read, its column is written, and then its children are walked.
+#![tactic(auto)]
+
 ghost use Rattle.std.specs.Prelude.{length};
 ghost use Rattle.tape.specs.Opens.{Opened as TapeOpened, view_of};
 ghost use Rattle.schema.specs.Opened.{Opened as SchemaOpened, records_of, names_of};

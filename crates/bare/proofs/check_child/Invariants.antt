@@ -14,4 +14,4 @@ invariant-loop-slot g l =
     (root : Node) (size : ℕ) (t c : Node) → NodeOf l.frame.schema l.node t → NodeOf l.frame.schema l.child c →
     let st = setup_of s (g.X.Leaf.meaning l.custom) root size in
     let hid = hidden_at s tape t l.rows in
-    bare_from st tape c l.in-force l.slot (veiled hid l.slot (drop l.slot l.slots)) ≡ bare_from st tape c l.in-force 0 (veiled hid 0 l.slots)
+    bare_from st tape c l.in_force l.slot (veiled hid l.slot (drop l.slot l.slots)) ≡ bare_from st tape c l.in_force 0 (veiled hid 0 l.slots)

@@ -10,8 +10,8 @@ use Rattle.bare.specs.Slots.{hidden_at}
 use Rattle.bare.proofs.Signs.{struct_slot, fixed_slot, not_hidden}
 use Rattle.bare.proofs.hidden.Goals as goal
 
-pub offset-bounds-rows-slot : goal.offset-bounds-rows-slot
-offset-bounds-rows-slot c =
+pub offset_bounds-rows-slot : goal.offset_bounds-rows-slot
+offset_bounds-rows-slot c =
     let f = c.requires.slot in
     let l : c.args.slot < length c.args.rows.now = struct_slot f.0 (length c.args.rows.now) c.args.slot (sym (c.letter.ensures.node f.0 f.1) ∙ c.in-S.is) f.2 in
     search rules
@@ -30,13 +30,13 @@ begins-requires c =
       position = c.requires.rows c.args.slot (struct_slot f.0 (length c.args.rows.now) c.args.slot (sym (c.letter.ensures.node f.0 f.1) ∙ c.in-S.is) f.2);
     }
 
-pub nonzero-div-slot : goal.nonzero-div-slot
-nonzero-div-slot c =
+pub nonzero_div-slot : goal.nonzero_div-slot
+nonzero_div-slot c =
     let f = c.requires.slot in
     (fixed_slot f.0 c.count.result (length c.args.rows.now) c.args.slot (sym (c.letter.ensures.node f.0 f.1) ∙ c.in-F.is) (c.count.ensures.node f.0 f.1) f.2).0
 
-pub offset-bounds-rows-slot-in-F : goal.offset-bounds-rows-slot-in-F
-offset-bounds-rows-slot-in-F c =
+pub offset_bounds-rows-slot-in-F : goal.offset_bounds-rows-slot-in-F
+offset_bounds-rows-slot-in-F c =
     let f = c.requires.slot in
     let l : c.args.slot / c.count.result < length c.args.rows.now =
     (fixed_slot f.0 c.count.result (length c.args.rows.now) c.args.slot (sym (c.letter.ensures.node f.0 f.1) ∙ c.in-F.is) (c.count.ensures.node f.0 f.1) f.2).1 in
@@ -72,6 +72,6 @@ returns-in-F c = λ t h.
     (ap not (c.begins-in-F.ensures (field_of t) (fixed (count_of t)) (children_of t) (subst (NodeOf c.args.frame.schema c.args.node) is h)
     ∙ ap (λ n. is_at tape (letter s (fixed (count_of t))) (get_or c.args.rows.now (c.args.slot / n) 0)) (c.count.ensures.node t h)))
 
-pub returns-in-default : goal.returns-in-default
-returns-in-default c = λ t h.
+pub returns-in_default : goal.returns-in_default
+returns-in_default c = λ t h.
     not_hidden c.args.frame.settings (view_of c.args.frame.tape) c.args.rows.now c.args.slot t c.letter.result (c.letter.ensures.node t h) (λ e. omega arith) (λ e. omega arith)

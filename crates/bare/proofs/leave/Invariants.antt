@@ -13,5 +13,5 @@ invariant-loop-k g l =
     let ns = names_of l.frame.schema in
     let t = view_of l.frame.tape in
     let s = l.frame.settings in
-    OfTree s (g.X.Leaf.meaning l.custom) t rs ns l.node l.in-force l.rows (λ st T.
-    Between st t rs ns (below_of T l.in-force) (hidden_at s t T l.rows) l.mine l.stride l.kids (children_of T) (items_in st t T l.in-force l.rows) l.child l.k)
+    OfTree s (g.X.Leaf.meaning l.custom) t rs ns l.node l.in_force l.rows (λ st T.
+    Between st t rs ns (below_of T l.in_force) (hidden_at s t T l.rows) l.mine l.stride l.kids (children_of T) (items_in st t T l.in_force l.rows) l.child l.k)

@@ -18,12 +18,12 @@ returns-in-None g c = λ root size t h.
     custom_keeps (setup_of c.args.frame.settings (g.X.Leaf.meaning c.args.custom.now) root size) c.letter.result t true (c.letter.ensures.node t h) c.in-X.is
     (sym (c.nullable.ensures.node t h) ∙ c.if-nullable.false) (ap keeps_none (sym c.in-None.ensures))
 
-pub returns-in-default-matches : goal.returns-in-default-matches
-returns-in-default-matches g c = λ root size t h.
+pub returns-in_default-matches : goal.returns-in_default-matches
+returns-in_default-matches g c = λ root size t h.
     custom_keeps (setup_of c.args.frame.settings (g.X.Leaf.meaning c.args.custom.now) root size) c.letter.result t _ (c.letter.ensures.node t h) c.in-X.is
-    (sym (c.nullable.ensures.node t h) ∙ c.if-nullable.false) (ap keeps_none (sym c.layout.ensures) ∙ not_none c.layout.result c.in-default-matches.not-None)
+    (sym (c.nullable.ensures.node t h) ∙ c.if-nullable.false) (ap keeps_none (sym c.layout.ensures) ∙ not_none c.layout.result c.in_default-matches.not-None)
 
-pub returns-in-default : goal.returns-in-default
-returns-in-default g c = λ root size t h.
+pub returns-in_default : goal.returns-in_default
+returns-in_default g c = λ root size t h.
     others_keep (setup_of c.args.frame.settings (g.X.Leaf.meaning c.args.custom.now) root size) c.letter.result t (c.letter.ensures.node t h)
     (λ e. omega arith) (λ e. omega arith) (sym (c.nullable.ensures.node t h) ∙ c.if-nullable.false)

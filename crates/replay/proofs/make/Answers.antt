@@ -1,5 +1,5 @@
-use Rattle.std.proofs.Common.{ℕ, min, length, sym, refl, ap, ◌∙◌, subst, length-take}
-use Rattle.laws.specs.Calls.{Cell, Release, Count, cell_at}
+use Rattle.std.proofs.Common.{length, sym, refl, ◌∙◌, subst, length-take}
+use Rattle.laws.specs.Calls.{Cell, cell_at}
 use Rattle.tape.specs.View.{view}
 use Rattle.slip.specs.Slips.{slip_of}
 use Rattle.shelf.specs.Standing.{setup_in}
@@ -19,12 +19,12 @@ count-batches-requires g c = c.requires
 pub returns-in-Shelve : goal.returns-in-Shelve
 returns-in-Shelve g c = record {
   makes = λ root size held h.
-      let q = c.shelve-from.ensures.makes root size held h in
+      let q = c.shelve_from.ensures.makes root size held h in
       (q.0, subst (λ l. Asks (length c.args.work.now) l q.0) (sym c.in-Shelve.is) (subst (λ n. ShelveFrom (view c.in-Shelve.elements.now c.in-Shelve.texts.now c.in-Shelve.offsets.now) c.in-Shelve.positions.now n q.0) (length-take c.min-lent.result c.args.work.now ∙ lent_is c.in-Shelve.lent (length c.args.work.now) c.min-lent.result c.min-lent.ensures) q.1), record { answered = c.numbered.ensures ∙ q.2.answered; holds = q.2.holds });
-  page = c.shelve-from.ensures.page;
-  schema = c.shelve-from.ensures.schema;
-  settings = c.shelve-from.ensures.settings;
-  custom = c.shelve-from.ensures.custom;
+  page = c.shelve_from.ensures.page;
+  schema = c.shelve_from.ensures.schema;
+  settings = c.shelve_from.ensures.settings;
+  custom = c.shelve_from.ensures.custom;
 }
 
 pub returns-in-Ok : goal.returns-in-Ok

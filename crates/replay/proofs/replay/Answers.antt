@@ -1,4 +1,4 @@
-use Rattle.std.proofs.Common.{ℕ, length, get_or, sym, refl, ap, ◌∙◌, subst, arith, rules}
+use Rattle.std.proofs.Common.{length, get_or, sym, refl, ap, ◌∙◌, subst, arith, rules}
 use Rattle.std.proofs.lemmas.List.{take_more}
 use Rattle.schema.specs.Opens.{Opens as Tree}
 use Rattle.schema.specs.Opened.{records_of}
@@ -15,11 +15,11 @@ make-requires g c =
 
 pub loop-i-init : goal.loop-i-init
 loop-i-init g c =
-    let o = c.in-ok-schema.ensures.tree in
-    let schema = c.in-ok-schema.schema in
+    let o = c.in_ok-schema.ensures.tree in
+    let schema = c.in_ok-schema.schema in
     let root = o.0.0 in
     let tree : Tree c.args.records.now c.args.names.now root = subst (λ rs. Tree rs c.args.names.now root) o.1 (subst (λ ns. Tree (records_of schema) ns root) o.2 o.0.1) in
-    let h = c.new-shelf.ensures.holds root o.0.1 c.in-ok-clear.ensures.0 in (
+    let h = c.new-shelf.ensures.holds root o.0.1 c.in_ok-clear.ensures.0 in (
       begun g.X.Leaf.meaning c.args.settings c.args.custom.now c.args.records.now c.args.names.now (length c.clear.new.page) (length c.args.work.now) c.new-shelf.result c.args.calls.now c.args.answers.now root
           tree h c.new-shelf.ensures.settings (ap (λ r. r.now) c.new-shelf.ensures.custom),
       refl,
@@ -37,8 +37,8 @@ loop-i-preserved g c = let f = c.loop-i.invariant.0 in
 
 pub returns : goal.returns
 returns g c =
-    let o = c.in-ok-schema.ensures.tree in
-    let w = c.in-ok-clear.ensures in
+    let o = c.in_ok-schema.ensures.tree in
+    let w = c.in_ok-clear.ensures in
     let long = page_size (c.new-shelf.ensures.holds o.0.0 o.0.1 w.0) ∙ w.1 in
     let d = all_done g.X.Leaf.meaning c.new-shelf.result.settings c.args.custom.now c.args.records.now c.args.names.now (length c.new-shelf.result.page.now) (length c.args.work.now) c.loop-i.shelf c.args.calls.now c.loop-i.answers c.args.answers.now c.loop-i.i c.loop-i.invariant.0 (omega arith) (omega arith) in (
       subst (λ b. Replayed c.args.settings (g.X.Leaf.meaning c.args.custom.now) c.args.records.now c.args.names.now (length c.args.page.now) (length c.args.work.now) c.args.calls.now c.loop-i.answers b)

@@ -42,11 +42,11 @@ returns-in-N c = λ t h.
 
 pub returns-in-F : goal.returns-in-F
 returns-in-F c = λ t h.
-    let count : c.u16-at.result ≡ count_of t = c.u16-at.ensures ∙ ap (λ rs. le_at 2 rs (16 * c.args.node + 14)) c.bytes.ensures.records ∙ (held_written h).count in
-    ap (λ n. shape_from n c.wide-wide.result c.u16-at.result c.args.custom) (sym c.in-F.is)
-    ∙ shape_by_lem c.args.custom t c.letter.result c.u16-at.result c.wide-wide.result (c.letter.ensures.node t h) (c.wide-wide.ensures.node t h) count
+    let count : c.u16_at.result ≡ count_of t = c.u16_at.ensures ∙ ap (λ rs. le_at 2 rs (16 * c.args.node + 14)) c.bytes.ensures.records ∙ (held_written h).count in
+    ap (λ n. shape_from n c.wide-wide.result c.u16_at.result c.args.custom) (sym c.in-F.is)
+    ∙ shape_by_lem c.args.custom t c.letter.result c.u16_at.result c.wide-wide.result (c.letter.ensures.node t h) (c.wide-wide.ensures.node t h) count
 
-pub returns-in-default : goal.returns-in-default
-returns-in-default c = λ t h.
+pub returns-in_default : goal.returns-in_default
+returns-in_default c = λ t h.
     shape_rest c.args.custom t c.letter.result c.wide-wide.result (c.letter.ensures.node t h) (c.wide-wide.ensures.node t h)
     (λ e. omega arith) (λ e. omega arith) (λ e. omega arith) (λ e. omega arith) (λ e. omega arith) (λ e. omega arith) (λ e. omega arith) (λ e. omega arith)

@@ -1,4 +1,4 @@
-use Rattle.std.proofs.Common.{◌*◌, sym, ap, ◌∙◌, arith}
+use Rattle.std.proofs.Common.{◌*◌, ap, ◌∙◌, arith}
 use Rattle.schema.proofs.Nodes.{held_end}
 use Rattle.shelf.proofs.Batches.{zeros_blank, writes_ok, walked_err, wiped}
 use Rattle.shelf.proofs.write.Goals as goal

@@ -20,5 +20,5 @@ invariant-loop-k g l =
     let m = g.X.Leaf.meaning l.custom in
     (l.top ≤ length l.area)
     × Blank l.area l.top
-    × OfTree l.frame.settings m t rs ns l.node l.in-force l.rows (λ st T.
-    Middle st t rs ns (below_of T l.in-force) l.mine l.stride (length l.initial.area) (length l.initial.deeper) l.node l.initial.top l.kids l.initial.area (children_of T) (items_in st t T l.in-force l.rows) l.area l.child l.k l.top)
+    × OfTree l.frame.settings m t rs ns l.node l.in_force l.rows (λ st T.
+    Middle st t rs ns (below_of T l.in_force) l.mine l.stride (length l.initial.area) (length l.initial.deeper) l.node l.initial.top l.kids l.initial.area (children_of T) (items_in st t T l.in_force l.rows) l.area l.child l.k l.top)

@@ -10,8 +10,8 @@ use Rattle.columns.proofs.cells.put_eights.Goals as goal
 pub loop-i-init : goal.loop-i-init
 loop-i-init g c = eights-start _ (length c.args.rows.now) c.args.out.now (sym (length-map c.args.rows.now _)) c.requires.blank
 
-pub put-value-requires : goal.put-value-requires
-put-value-requires g c =
+pub put_value-requires : goal.put_value-requires
+put_value-requires g c =
     let thin = thin_cell 8 ((g.L.Leaf.meaning c.args.leaf.now).answer (elem_of c.element.result)) (c.requires.bytes _) in
     let z = length-replicate {A = ℕ} (8 * length c.args.rows.now) 0 in
     omega (arith, thin, c.loop-i.auto.out, ap length c.requires.blank, z, c.loop-i-test.true)
@@ -23,7 +23,7 @@ loop-i-preserved g c =
     let ps = c.args.rows.now in
     let o = shown (m.answer (elem_of c.element.result)) in
     let is = cell_here m t ps c.loop-i.i c.loop-i-test.true ∙ ap (λ e. shown (m.answer e)) (sym c.element.ensures) in
-    eights_more (cells m t ps) c.loop-i.i c.loop-i.out _ o (omega (arith, length-map ps (cell_at m t), c.loop-i-test.true)) c.loop-i.invariant is (wide_cell 8 _ (c.requires.bytes _)) c.put-value.ensures.after
+    eights_more (cells m t ps) c.loop-i.i c.loop-i.out _ o (omega (arith, length-map ps (cell_at m t), c.loop-i-test.true)) c.loop-i.invariant is (wide_cell 8 _ (c.requires.bytes _)) c.put_value.ensures.after
 
 pub returns : goal.returns
 returns g c =

@@ -16,8 +16,8 @@ returns-in-Value g c =
     let n : c.in-Value.n ≡ length (or_else [] (shown a)) = v.2 ∙ sym (ap (λ x. length (or_else [] (shown x))) v.1) in
     record { size = n; after = splice-part c.args.at _ c.args.out.now _ (or_else [] (shown a)) (sym cell) (omega (arith, n)) }
 
-pub returns-in-default : goal.returns-in-default
-returns-in-default g c =
+pub returns-in_default : goal.returns-in_default
+returns-in_default g c =
     let a = (g.L.Leaf.meaning c.args.leaf.now).answer (elem_of c.args.e) in
-    let e : shown a ≡ none = no_value a (λ n h. c.in-default.not-Value n (c.answer.ensures ∙ h)) in
+    let e : shown a ≡ none = no_value a (λ n h. c.in_default.not-Value n (c.answer.ensures ∙ h)) in
     record { size = sym (ap (λ o. length (or_else [] o)) e); after = sym (ap (λ o. splice c.args.out.now c.args.at (or_else [] o)) e ∙ splice_nil c.args.out.now c.args.at) }

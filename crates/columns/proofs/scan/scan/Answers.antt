@@ -13,7 +13,7 @@ loop-p-preserved g c =
     let here = ap (λ e. reply_of (m.answer e)) c.element.ensures in
     elim c.match-answer.branch [
       | in-Null w ↦ next_null m t c.args.node c.args.rows.now _ _ _ c.loop-p-test.true c.loop-p.invariant _ _ (w.in-Null.ensures ∙ here) w.nulls-is w.bytes-is
-      | in-Value w ↦ next_value m t c.args.node c.args.rows.now _ _ _ c.loop-p-test.true c.loop-p.invariant _ _ _ (w.in-Value.ensures ∙ here) w.nulls-is (w.bytes-is ∙ w.saturating-add-bytes.ensures)
+      | in-Value w ↦ next_value m t c.args.node c.args.rows.now _ _ _ c.loop-p-test.true c.loop-p.invariant _ _ _ (w.in-Value.ensures ∙ here) w.nulls-is (w.bytes-is ∙ w.saturating_add-bytes.ensures)
     ]
 
 pub returns-in-Conflict : goal.returns-in-Conflict

@@ -1,4 +1,4 @@
-use Rattle.std.proofs.Common.{◌≡◌, length, sym, ap, ◌∙◌, arith}
+use Rattle.std.proofs.Common.{length, sym, ap, ◌∙◌, arith}
 use Rattle.schema.specs.Tree.{branch, struct}
 use Rattle.schema.proofs.Nodes.{held_written, held_limited}
 use Rattle.entry.proofs.Entries.{ready_place, struct_counts}
@@ -10,8 +10,8 @@ of-index-requires c = record { opened = c.requires.schema; within = (held_writte
 pub count-fields-requires : goal.count-fields-requires
 count-fields-requires c = (held_written c.requires.ready.formed.1).within
 
-pub enter-struct-requires : goal.enter-struct-requires
-enter-struct-requires c =
+pub enter_struct-requires : goal.enter_struct-requires
+enter_struct-requires c =
     let T = c.requires.ready.formed.0 in
     let h = c.requires.ready.formed.1 in
     let n = struct_counts T (sym (held_written h).letter ∙ c.requires.kind) (held_limited h) in
@@ -28,4 +28,4 @@ enter-struct-requires c =
     }
 
 pub returns : goal.returns
-returns c = λ f cs h. c.enter-struct.ensures f cs (held_written h).number (sym (c.of-index.ensures.names (branch f struct cs) h))
+returns c = λ f cs h. c.enter_struct.ensures f cs (held_written h).number (sym (c.of-index.ensures.names (branch f struct cs) h))

@@ -13,7 +13,7 @@ returns c =
     record {
       sized = omega arith;
       kept = c.if-size-out.auto.out;
-      counted = rw (← s) c.saturating-add.ensures;
+      counted = rw (← s) c.saturating_add.ensures;
       placed = λ h.
           elim c.if-size-out.branch [
             | then-size-out+then-at-out w ↦ w.out-is ∙ splice-part c.args.at _ c.args.out.now _ (signed_decimal c.args.n) (w.put.ensures ∙ ap signed_decimal e) (omega arith)

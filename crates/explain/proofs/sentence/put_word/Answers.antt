@@ -1,6 +1,6 @@
-use Rattle.std.proofs.Common.{sym, ap, arith}
+use Rattle.std.proofs.Common.{arith}
 use Rattle.std.proofs.lemmas.Bool.Decides.{nat_tests}
-use Rattle.explain.proofs.Words.{letter_word, puts_word}
+use Rattle.explain.proofs.Words.{puts_word}
 use Rattle.explain.proofs.sentence.put_word.Goals as goal
 
 pub returns-in-S : goal.returns-in-S
@@ -18,8 +18,8 @@ returns-in-N c t h = puts_word c.args.settings c.args.own.now t (c.letter.ensure
 pub returns-in-X : goal.returns-in-X
 returns-in-X c t h = puts_word c.args.settings c.args.own.now t (c.letter.ensures.node t h) (rw c.in-X.is) c.put-in-X.ensures
 
-pub returns-in-default : goal.returns-in-default
-returns-in-default c t h = puts_word c.args.settings c.args.own.now t (c.letter.ensures.node t h) (grind (arith, nat_tests)) c.put-in-default.ensures
+pub returns-in_default : goal.returns-in_default
+returns-in_default c t h = puts_word c.args.settings c.args.own.now t (c.letter.ensures.node t h) (grind (arith, nat_tests)) c.put-in_default.ensures
 
 pub returns-in-S-2 : goal.returns-in-S-2
 returns-in-S-2 c t h = puts_word c.args.settings c.args.own.now t (c.letter.ensures.node t h) (rw (c.in-S.is, c.if-settings.false)) c.put-in-S-2.ensures

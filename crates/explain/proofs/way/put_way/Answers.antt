@@ -23,7 +23,7 @@ loop-parent-preserved c = (
       let y = c.toward-child.ensures.ways x.0 x.1 in (
         y.0,
         y.1,
-        leads_more (subst (λ z. Leads c.args.at (way_to c.args.node root) c.args.out.now c.loop-parent.to z c.loop-parent.out) y.2 x.2) (c.put-step-to.ensures x.0 y.0 x.1 y.1),
+        leads_more (subst (λ z. Leads c.args.at (way_to c.args.node root) c.args.out.now c.loop-parent.to z c.loop-parent.out) y.2 x.2) (c.put_step-to.ensures x.0 y.0 x.1 y.1),
       )),
 )
 

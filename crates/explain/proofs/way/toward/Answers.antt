@@ -1,4 +1,4 @@
-use Rattle.std.proofs.Common.{◌≡◌, sym, subst, arith}
+use Rattle.std.proofs.Common.{sym, subst, arith}
 use Rattle.schema.specs.Opened.{records_of, names_of}
 use Rattle.explain.proofs.Ways.{Left, left-all, front, front_of, front_within, front_forward, left_more, way_into}
 use Rattle.explain.proofs.way.toward.Goals as goal

@@ -6,5 +6,5 @@ use Rattle.leaf.proofs.laws.write_bytes.Goals as goal
 
 pub returns : goal.returns
 returns g c =
-    let bytes : AreBytes c.write.new.out = All-from_get_or (λ b. b < 256) c.write.new.out 0 (λ i h. omega (arith, c.type-inv.out i)) in
+    let bytes : AreBytes c.write.new.out = All-from_get_or (λ b. b < 256) c.write.new.out 0 (λ i h. omega (arith, c.type_inv.out i)) in
     valued_by AreBytes _ c.write.new.out c.write.ensures bytes

@@ -1,4 +1,4 @@
-use Rattle.std.proofs.Common.{◌≡◌, [], ◌∷◌, ◌++◌, is_ok, vec_items, sym, refl, ap, ◌∙◌, append_assoc, arith}
+use Rattle.std.proofs.Common.{[], ◌∷◌, ◌++◌, is_ok, vec_items, sym, refl, ap, ◌∙◌, append_assoc, arith}
 use Rattle.std.proofs.ResultArms.{chosen}
 use Rattle.tape.specs.Opens.{view_of}
 use Rattle.tape.specs.Layout.{next_at}
@@ -17,7 +17,7 @@ loop-at-preserved c =
     let t = view_of c.args.tape in
     let end = c.count-end.result in
     let a = steps_ahead t c.loop-at-test.true c.loop-at.invariant.0 in
-    let pushed = chosen _ _ _ _ c.push.ensures.items (ap is_ok c.in-ok-push.was) in
+    let pushed = chosen _ _ _ _ c.push.ensures.items (ap is_ok c.in_ok-push.was) in
     let ahead = onward t (next_at t.elements c.loop-at.at) end in
     rw c.next-at.ensures (
       a.rest,

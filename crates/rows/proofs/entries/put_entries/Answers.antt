@@ -26,26 +26,26 @@ front c =
     let t = view_of c.args.tape in
     ahead (entries t c.args.p) c.loop-at.n c.loop-at.at _ 0 (c.loop-at.invariant.1 ∙ onward_more t c.loop-at-test.true c.loop-at.invariant.0)
 
-pub overflow-mul-work : goal.overflow-mul-work
-overflow-mul-work c =
+pub overflow_mul-work : goal.overflow_mul-work
+overflow_mul-work c =
     let room : c.args.from + c.loop-at.n * c.args.step < length c.loop-at.work = omega (arith, c.requires.room c.loop-at.n (front c).0) in
     search rules
 
-pub overflow-add-work : goal.overflow-add-work
-overflow-add-work c =
+pub overflow_add-work : goal.overflow_add-work
+overflow_add-work c =
     let room : c.args.from + c.loop-at.n * c.args.step < length c.loop-at.work = omega (arith, c.requires.room c.loop-at.n (front c).0) in
     search rules
 
-pub offset-bounds-work-from : goal.offset-bounds-work-from
-offset-bounds-work-from c =
+pub offset_bounds-work-from : goal.offset_bounds-work-from
+offset_bounds-work-from c =
     let room : c.args.from + c.loop-at.n * c.args.step < length c.loop-at.work = omega (arith, c.requires.room c.loop-at.n (front c).0) in
     search rules
 
 pub bounds-work-from : goal.bounds-work-from
 bounds-work-from c = omega (arith, c.requires.room c.loop-at.n (front c).0)
 
-pub overflow-add-n : goal.overflow-add-n
-overflow-add-n c =
+pub overflow_add-n : goal.overflow_add-n
+overflow_add-n c =
     let t = view_of c.args.tape in
     omega (arith, (front c).0, few_entries t c.requires.opened c.args.p (list_law t c.requires.opened c.args.p c.requires.position c.requires.list))
 

@@ -15,9 +15,9 @@ pub loop-p-preserved : goal.loop-p-preserved
 loop-p-preserved g c =
     let b = g.K.RowKind.branch c.args.kind.now in
     let cs = g.K.RowKind.children c.args.kind.now in
-    let row = c.in-ok-row.row in
+    let row = c.in_ok-row.row in
     let i = c.loop-p.p-index in
-    let said = c.in-ok-row.ensures in (
+    let said = c.in_ok-row.ensures in (
       omega (arith, said.few.0, c.loop-p.invariant.0),
       omega (arith, one-null row.null, c.loop-p.invariant.1),
       (λ z. omega (arith, said.few.1 z, c.loop-p.invariant.2 z)),
@@ -33,13 +33,13 @@ returns g c =
       few = (omega (arith, c.loop-p.invariant.0), omega (arith, c.loop-p.invariant.1), λ z. omega (arith, c.loop-p.invariant.2 z));
     }
 
-pub returns-in-err-row : goal.returns-in-err-row
-returns-in-err-row g c =
+pub returns-in_err-row : goal.returns-in_err-row
+returns-in_err-row g c =
     let b = g.K.RowKind.branch c.args.kind.now in
     let cs = g.K.RowKind.children c.args.kind.now in
     let row = row_in c.args.reading b cs in
     let ps = c.args.rows.now in
     let i = c.loop-p.p-index in
-    let f = c.in-err-row.field-0.0 in
-    let p = err_from_is_err_and c.from-residual.result c.from-residual.ensures.1 in
-    rw (p.1, p.2) (record { few = tt; said = left_refused b cs row ps i c.loop-p.items c.loop-p.nulls c.loop-p-test.true c.loop-p.invariant.3 (slip_of f) (refused_then (row (get_or ps i 0)) (row_size b cs) (slip_of f) c.in-err-row.ensures.said) })
+    let f = c.in_err-row.field-0.0 in
+    let p = err_from_is_err_and c.from_residual.result c.from_residual.ensures.1 in
+    rw (p.1, p.2) (record { few = tt; said = left_refused b cs row ps i c.loop-p.items c.loop-p.nulls c.loop-p-test.true c.loop-p.invariant.3 (slip_of f) (refused_then (row (get_or ps i 0)) (row_size b cs) (slip_of f) c.in_err-row.ensures.said) })

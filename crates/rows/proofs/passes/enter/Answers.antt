@@ -17,70 +17,70 @@ use Rattle.rows.proofs.Spanned.{column_plans, few_items}
 use Rattle.rows.proofs.Tallies.{refused_then}
 use Rattle.rows.proofs.passes.enter.Goals as goal
 
-pub returns-in-err-counted : goal.returns-in-err-counted
+pub returns-in_err-counted : goal.returns-in_err-counted
 unfolding row_in
-returns-in-err-counted g c =
+returns-in_err-counted g c =
     let r = c.args.reading in
     let b = g.K.RowKind.branch c.args.kind.now in
     let cs = g.K.RowKind.children c.args.kind.now in
     let ps = c.args.rows.now in
-    let y = c.in-err-counted.field-0.0 in
-    let p = err_from_is_err_and c.from-residual.result c.from-residual.ensures.1 in
+    let y = c.in_err-counted.field-0.0 in
+    let p = err_from_is_err_and c.from_residual.result c.from_residual.ensures.1 in
     rw (p.1, p.2) (enter_refused r.settings (view_of r.tape) (numbered r.node) b cs r.in_force ps c.args.top c.args.area.now c.args.work.now c.args.work.now y
-    (refused_then (each (row_in r b cs) ps) (counts_of b cs) (slip_of y) c.in-err-counted.ensures.said))
+    (refused_then (each (row_in r b cs) ps) (counts_of b cs) (slip_of y) c.in_err-counted.ensures.said))
 
-pub returns-in-err-next : goal.returns-in-err-next
+pub returns-in_err-next : goal.returns-in_err-next
 unfolding row_in
-returns-in-err-next g c =
+returns-in_err-next g c =
     let r = c.args.reading in
     let b = g.K.RowKind.branch c.args.kind.now in
     let cs = g.K.RowKind.children c.args.kind.now in
     let ps = c.args.rows.now in
-    let n = c.in-ok-counted.counted in
-    let rd = read b cs (row_in r b cs) ps n c.in-ok-counted.ensures.said in
+    let n = c.in_ok-counted.counted in
+    let rd = read b cs (row_in r b cs) ps n c.in_ok-counted.ensures.said in
     let os = map (row_there r b cs) ps in
     let made = c.new-spans.ensures in
     let planned = column_plans c.new-spans.result c.shape.result b (length ps) n.nulls os c.shape.ensures made.laid made.plans (length-map ps (row_there r b cs)) rd.empty in
-    let y = c.in-err-next.field-0.0 in
-    let p = err_from_is_err_and c.from-residual-in-err-next.result c.from-residual-in-err-next.ensures.1 in
+    let y = c.in_err-next.field-0.0 in
+    let p = err_from_is_err_and c.from_residual-in_err-next.result c.from_residual-in_err-next.ensures.1 in
     rw (p.1, p.2) (enter_full r.settings (view_of r.tape) (numbered r.node) b cs r.in_force ps c.args.top c.args.area.now c.args.work.now c.args.work.now n rd c.kids-kids.result c.kids-kids.ensures.many y
-    (c.in-err-next.ensures (branch_column b os) planned.1))
+    (c.in_err-next.ensures (branch_column b os) planned.1))
 
-pub put-record-requires : goal.put-record-requires
+pub put_record-requires : goal.put_record-requires
 unfolding row_in
-put-record-requires g c =
+put_record-requires g c =
     let r = c.args.reading in
     let b = g.K.RowKind.branch c.args.kind.now in
     let cs = g.K.RowKind.children c.args.kind.now in
     let ps = c.args.rows.now in
-    let n = c.in-ok-counted.counted in
-    let rd = read b cs (row_in r b cs) ps n c.in-ok-counted.ensures.said in
+    let n = c.in_ok-counted.counted in
+    let rd = read b cs (row_in r b cs) ps n c.in_ok-counted.ensures.said in
     let os = map (row_there r b cs) ps in
     let made = c.new-spans.ensures in
     let planned = column_plans c.new-spans.result c.shape.result b (length ps) n.nulls os c.shape.ensures made.laid made.plans (length-map ps (row_there r b cs)) rd.empty in
-    let there = space-there (length c.args.area.now) (length c.args.work.now) r.node c.args.top (c.kids-kids.result * n.items) (branch_column b os) c.in-ok-next.next (c.in-ok-next.ensures (branch_column b os) planned.1) in
+    let there = space-there (length c.args.area.now) (length c.args.work.now) r.node c.args.top (c.kids-kids.result * n.items) (branch_column b os) c.in_ok-next.next (c.in_ok-next.ensures (branch_column b os) planned.1) in
     record {
       room = omega (arith, c.requires.place.apart, c.requires.place.within);
-      fits = recordable c.new-spans.result.plan (branch_column b os) c.args.top (length c.args.area.now) planned.0 there.0 c.requires.place.page made.laid.few (omega (arith, made.same.1.1, c.in-ok-counted.ensures.few.1));
+      fits = recordable c.new-spans.result.plan (branch_column b os) c.args.top (length c.args.area.now) planned.0 there.0 c.requires.place.page made.laid.few (omega (arith, made.same.1.1, c.in_ok-counted.ensures.few.1));
     }
 
-pub fill-rows-requires : goal.fill-rows-requires
+pub fill_rows-requires : goal.fill_rows-requires
 unfolding row_in
-fill-rows-requires g c =
+fill_rows-requires g c =
     let r = c.args.reading in
     let b = g.K.RowKind.branch c.args.kind.now in
     let cs = g.K.RowKind.children c.args.kind.now in
     let ps = c.args.rows.now in
-    let n = c.in-ok-counted.counted in
-    let rd = read b cs (row_in r b cs) ps n c.in-ok-counted.ensures.said in
+    let n = c.in_ok-counted.counted in
+    let rd = read b cs (row_in r b cs) ps n c.in_ok-counted.ensures.said in
     let os = map (row_there r b cs) ps in
     let made = c.new-spans.ensures in
     let planned = column_plans c.new-spans.result c.shape.result b (length ps) n.nulls os c.shape.ensures made.laid made.plans (length-map ps (row_there r b cs)) rd.empty in
     let area = c.args.area.now in
     let top = c.args.top in
-    let next = c.in-ok-next.next in
+    let next = c.in_ok-next.next in
     let column = branch_column b os in
-    let there = space-there (length area) (length c.args.work.now) r.node top (c.kids-kids.result * n.items) column next (c.in-ok-next.ensures column planned.1) in
+    let there = space-there (length area) (length c.args.work.now) r.node top (c.kids-kids.result * n.items) column next (c.in_ok-next.ensures column planned.1) in
     let lent : many cs * n.items ≤ length c.args.work.now = omega (arith, there.1, ap (λ k. k * n.items) c.kids-kids.ensures.many) in
     record {
       ready = c.requires.ready;
@@ -89,7 +89,7 @@ fill-rows-requires g c =
       accepted = rd.accepted_all;
       all = rd.items;
       lent = lent;
-      small = few_items (many cs) n.items (length c.args.work.now) lent c.requires.lent c.in-ok-counted.ensures.few.2;
+      small = few_items (many cs) n.items (length c.args.work.now) lent c.requires.lent c.in_ok-counted.ensures.few.2;
       spans = record {
         shape = ap branch_of made.same.0 ∙ c.shape.ensures;
         suits = c.requires.suits;
@@ -97,7 +97,7 @@ fill-rows-requires g c =
         slots = length-map ps (row_there r b cs) ∙ sym made.same.1.0;
         nulls = rd.empty ∙ sym made.same.1.1;
         blank =
-            ap (λ a. part a top (next - top)) (c.put-record.ensures column planned.0)
+            ap (λ a. part a top (next - top)) (c.put_record.ensures column planned.0)
             ∙ blank_behind area r.node top (next - top) column c.requires.place (omega (arith, there.0, there.2))
             ∙ ap (λ k. replicate k 0) (let k : next - top ≡ bytes_of c.new-spans.result.plan = omega (arith, there.2, plans_size c.new-spans.result.plan column planned.0) in k);
       };
@@ -110,19 +110,19 @@ returns g c =
     let b = g.K.RowKind.branch c.args.kind.now in
     let cs = g.K.RowKind.children c.args.kind.now in
     let ps = c.args.rows.now in
-    let n = c.in-ok-counted.counted in
-    let rd = read b cs (row_in r b cs) ps n c.in-ok-counted.ensures.said in
+    let n = c.in_ok-counted.counted in
+    let rd = read b cs (row_in r b cs) ps n c.in_ok-counted.ensures.said in
     let os = map (row_there r b cs) ps in
     let made = c.new-spans.ensures in
     let planned = column_plans c.new-spans.result c.shape.result b (length ps) n.nulls os c.shape.ensures made.laid made.plans (length-map ps (row_there r b cs)) rd.empty in
     let area = c.args.area.now in
     let top = c.args.top in
-    let next = c.in-ok-next.next in
+    let next = c.in_ok-next.next in
     let column = branch_column b os in
-    let space = c.in-ok-next.ensures column planned.1 in
+    let space = c.in_ok-next.ensures column planned.1 in
     let there = space-there (length area) (length c.args.work.now) r.node top (c.kids-kids.result * n.items) column next space in
-    let filled = c.fill-rows.ensures in
-    enter_done r.settings (view_of r.tape) (numbered r.node) b cs r.in_force ps top area c.args.work.now c.fill-rows.new.work n rd c.kids-kids.result c.kids-kids.ensures.many next
-    (put_mid top (next - top) c.put-record.new.area c.fill-rows.new.out) space c.fill-rows.auto.work filled.filled filled.positions
-    (ap (λ a. put_mid top (next - top) a c.fill-rows.new.out) (c.put-record.ensures column planned.0)
-    ∙ column-written area r.node top (next - top) column c.fill-rows.new.out filled.written (omega (arith, there.2)))
+    let filled = c.fill_rows.ensures in
+    enter_done r.settings (view_of r.tape) (numbered r.node) b cs r.in_force ps top area c.args.work.now c.fill_rows.new.work n rd c.kids-kids.result c.kids-kids.ensures.many next
+    (put_mid top (next - top) c.put_record.new.area c.fill_rows.new.out) space c.fill_rows.auto.work filled.filled filled.positions
+    (ap (λ a. put_mid top (next - top) a c.fill_rows.new.out) (c.put_record.ensures column planned.0)
+    ∙ column-written area r.node top (next - top) column c.fill_rows.new.out filled.written (omega (arith, there.2)))

@@ -43,8 +43,8 @@ fill-row-requires g c =
       lent = omega arith;
     }
 
-pub overflow-add-at : goal.overflow-add-at
-overflow-add-at g c =
+pub overflow_add-at : goal.overflow_add-at
+overflow_add-at g c =
     let b = g.K.RowKind.branch c.args.kind.now in
     let cs = g.K.RowKind.children c.args.kind.now in
     let ps = c.args.rows.now in
@@ -78,11 +78,11 @@ loop-slot-preserved g c =
       omega (arith, ap (λ x. x.items) said.said, ap length (gathered_more G ps i h), length-append done (G (get_or ps i 0))),
       subst (λ xs. Filled (many cs) c.args.stride 0 xs c.args.work.now c.fill-row.new.work) more (filled_more (many cs) c.args.stride done (G (get_or ps i 0)) c.args.work.now c.loop-slot.work c.fill-row.new.work c.loop-slot.invariant.1 filled),
       subst (Positions t) more (append_positions t done (G (get_or ps i 0)) c.loop-slot.invariant.2 said.positions),
-      subst (Begun sp c.put-row.new.out) (sym (map_more R ps i 0 h)) (c.put-row.ensures os o c.loop-slot.invariant.3 long valid counts),
+      subst (Begun sp c.put_row.new.out) (sym (map_more R ps i 0 h)) (c.put_row.ensures os o c.loop-slot.invariant.3 long valid counts),
     )
 
-pub put-row-requires : goal.put-row-requires
-put-row-requires g c =
+pub put_row-requires : goal.put_row-requires
+put_row-requires g c =
     let b = g.K.RowKind.branch c.args.kind.now in
     let cs = g.K.RowKind.children c.args.kind.now in
     let ps = c.args.rows.now in

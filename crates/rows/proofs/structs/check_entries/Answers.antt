@@ -37,8 +37,8 @@ loop-at-preserved c =
     let next = sym c.next-at.ensures in
     (subst (λ q. Steps t q end) next a.rest, f.2 ∙ ap (λ q. onward t q end) next, omega (arith, f.0), omega (arith, c.loop-at.invariant.3, c.if-n-fields.false))
 
-pub overflow-add-n : goal.overflow-add-n
-overflow-add-n c = omega (arith, c.loop-at.invariant.3, c.if-n-fields.false)
+pub overflow_add-n : goal.overflow_add-n
+overflow_add-n c = omega (arith, c.loop-at.invariant.3, c.if-n-fields.false)
 
 pub returns : goal.returns
 returns c =

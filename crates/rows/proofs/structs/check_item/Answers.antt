@@ -8,7 +8,7 @@ use Rattle.rows.proofs.structs.check_item.Goals as goal
 pub returns-then-reading-2 : goal.returns-then-reading-2
 returns-then-reading-2 g c =
     let ns = g.N.NameIndex.names c.args.index.now in
-    c.check-names.ensures (replicate {A = ℕ} (length ns) 0) ∙ ap accepts (sym (item-placed c.args.reading ns c.args.p c.if-reading.false))
+    c.check_names.ensures (replicate {A = ℕ} (length ns) 0) ∙ ap accepts (sym (item-placed c.args.reading ns c.args.p c.if-reading.false))
 
 pub returns : goal.returns
 returns g c =

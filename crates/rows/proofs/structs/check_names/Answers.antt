@@ -29,8 +29,8 @@ loop-name-init g c =
     let s = object_start t c.requires.opened c.args.p c.next-end.result c.requires.position c.next-end.ensures c.requires.object in
     (s.0, ap (λ es. accepts (placed c.args.reading.settings t (numbered c.args.reading.node) (g.N.NameIndex.names c.args.index.now) es [])) (sym s.1))
 
-pub name-at-requires : goal.name-at-requires
-name-at-requires g c =
+pub name_at-requires : goal.name_at-requires
+name_at-requires g c =
     let a = pairs_ahead (view_of c.args.reading.tape) c.loop-name-test.true c.loop-name.invariant.0 in
     record { opened = c.requires.opened; position = a.name; name = eq-eqb _ _ a.letter }
 
@@ -46,7 +46,7 @@ loop-name-preserved g c =
     let i = c.in-Some.field-0 in
     let a = pairs_ahead t c.loop-name-test.true c.loop-name.invariant.0 in
     let w = onward_pair t c.loop-name-test.true c.loop-name.invariant.0 in
-    let e : lowest ns (words_at t name) ≡ Some i = ap (lowest ns) (sym c.name-at.ensures) ∙ sym c.in-Some.ensures in (
+    let e : lowest ns (words_at t name) ≡ Some i = ap (lowest ns) (sym c.name_at.ensures) ∙ sym c.in-Some.ensures in (
       subst (λ q. PairSteps t q end) (sym c.next-name.ensures) a.rest,
       ap (λ q. accepts (placed r.settings t own ns (onward t q end) [])) c.next-name.ensures
           ∙ placed_free r.settings t own ns rest [] (set [] i (name + 1))
@@ -64,7 +64,7 @@ returns-in-None g c =
     let end = c.next-end.result - 1 in
     let rest = onward t (next_at t.elements (name + 1)) end in
     let w = onward_pair t c.loop-name-test.true c.loop-name.invariant.0 in
-    let e : lowest ns (words_at t name) ≡ None = ap (lowest ns) (sym c.name-at.ensures) ∙ sym c.in-None.ensures in
+    let e : lowest ns (words_at t name) ≡ None = ap (lowest ns) (sym c.name_at.ensures) ∙ sym c.in-None.ensures in
     λ at. ap accepts (sym (placed_unknown r.settings t own ns name (name + 1) rest [] e c.requires.strict))
     ∙ ap (λ es. accepts (placed r.settings t own ns es [])) (sym w) ∙ c.loop-name.invariant.1 ∙ placed_free r.settings t own ns (entries t c.args.p) [] at
 

@@ -9,8 +9,8 @@ use Rattle.rows.specs.Structs.{column}
 use Rattle.rows.proofs.Placing.{item-placed, item_count, item-entries}
 use Rattle.rows.proofs.structs.put_item.Goals as goal
 
-pub put-entries-requires : goal.put-entries-requires
-put-entries-requires g c =
+pub put_entries-requires : goal.put_entries-requires
+put_entries-requires g c =
     let r = c.args.reading in
     let ns = g.N.NameIndex.names c.args.index.now in
     record {
@@ -21,8 +21,8 @@ put-entries-requires g c =
       apart = c.requires.apart;
     }
 
-pub put-values-requires : goal.put-values-requires
-put-values-requires g c =
+pub put_values-requires : goal.put_values-requires
+put_values-requires g c =
     let r = c.args.reading in
     let t = view_of r.tape in
     let ns = g.N.NameIndex.names c.args.index.now in
@@ -42,15 +42,15 @@ put-values-requires g c =
 pub returns-then-reading : goal.returns-then-reading
 returns-then-reading g c =
     let ns = g.N.NameIndex.names c.args.index.now in
-    λ item e. subst (λ xs. Spread c.args.place c.args.step xs c.args.work.now c.put-entries.new.work) (item-entries c.args.reading ns c.args.p c.if-reading.true item e) c.put-entries.ensures.spread
+    λ item e. subst (λ xs. Spread c.args.place c.args.step xs c.args.work.now c.put_entries.new.work) (item-entries c.args.reading ns c.args.p c.if-reading.true item e) c.put_entries.ensures.spread
 
 pub returns-else-reading : goal.returns-else-reading
 returns-else-reading g c =
     let r = c.args.reading in
     let t = view_of r.tape in
     let ns = g.N.NameIndex.names c.args.index.now in
-    let own = column c.put-values.new.work c.args.place c.args.step c.args.fields in
+    let own = column c.put_values.new.work c.args.place c.args.step c.args.fields in
     λ item e.
-    let q = sym c.put-values.ensures.item ∙ ap (λ m. placed r.settings t (numbered r.node) ns (entries t c.args.p) (replicate {A = ℕ} m 0)) c.requires.tied.count ∙ sym (item-placed r ns c.args.p c.if-reading.false) ∙ e in
+    let q = sym c.put_values.ensures.item ∙ ap (λ m. placed r.settings t (numbered r.node) ns (entries t c.args.p) (replicate {A = ℕ} m 0)) c.requires.tied.count ∙ sym (item-placed r ns c.args.p c.if-reading.false) ∙ e in
     let w : own ≡ item = cc in
-    subst (λ xs. Spread c.args.place c.args.step xs c.args.work.now c.put-values.new.work) w c.put-values.ensures.spread
+    subst (λ xs. Spread c.args.place c.args.step xs c.args.work.now c.put_values.new.work) w c.put_values.ensures.spread

@@ -3,4 +3,4 @@ use Rattle.schema.proofs.Nodes.{held_written}
 use Rattle.schema.proofs.Schema.count.Goals as goal
 
 pub returns : goal.returns
-returns c = record { small = omega arith; said = c.u16-at.ensures; node = λ t h. c.u16-at.ensures ∙ (held_written h).count }
+returns c = record { small = omega arith; said = c.u16_at.ensures; node = λ t h. c.u16_at.ensures ∙ (held_written h).count }

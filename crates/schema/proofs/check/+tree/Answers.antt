@@ -5,35 +5,35 @@ use Rattle.schema.proofs.check.+tree.Goals as goal
 pub returns-then-depth-eq0 : goal.returns-then-depth-eq0
 returns-then-depth-eq0 t c = λ k x. omega (arith, (tree_apart x).deep)
 
-pub returns-in-err-count : goal.returns-in-err-count
-returns-in-err-count t c =
-    rw c.from-residual.ensures (λ k x. let a = tree_apart x in c.in-err-count.ensures a.many' a.fit)
+pub returns-in_err-count : goal.returns-in_err-count
+returns-in_err-count t c =
+    rw c.from_residual.ensures (λ k x. let a = tree_apart x in c.in_err-count.ensures a.many' a.fit)
 
 pub loop-init : goal.loop-init
 loop-init t c = ((λ e r. row-counted (omega arith) r), (λ e r. row-counted (omega arith) r))
 
-pub returns-in-err-next : goal.returns-in-err-next
-returns-in-err-next t c =
-    rw c.from-residual-in-err-next.ensures (λ k x.
+pub returns-in_err-next : goal.returns-in_err-next
+returns-in_err-next t c =
+    rw c.from_residual-in_err-next.ensures (λ k x.
     let a = tree_apart x in
-    let r = c.loop.invariant.1 k (row-counted (fit_one a.fit c.in-ok-count.ensures) a.row) in
-    let f = row-front {k = c.in-ok-count.count - (c.loop.counter + 1)} r (omega arith) in
-    c.in-err-next.ensures f.next f.first)
+    let r = c.loop.invariant.1 k (row-counted (fit_one a.fit c.in_ok-count.ensures) a.row) in
+    let f = row-front {k = c.in_ok-count.count - (c.loop.counter + 1)} r (omega arith) in
+    c.in_err-next.ensures f.next f.first)
 
 pub loop-preserved : goal.loop-preserved
 loop-preserved t c =
-    let x = c.in-ok-next.ensures in (
+    let x = c.in_ok-next.ensures in (
       (λ e r. c.loop.invariant.0 e (row_more {rs = c.args.records.now} {ns = c.args.names.now} {d = c.args.depth - 1} {i = c.loop.next} x r (omega arith))),
       (λ e r. row_step {rs = c.args.records.now} {ns = c.args.names.now} {d = c.args.depth - 1} {i = c.loop.next} x (omega arith) (c.loop.invariant.1 e r)),
     )
 
-pub returns-then-u32-at-next : goal.returns-then-u32-at-next
-returns-then-u32-at-next t c =
-    tree_made (omega arith) c.in-ok-count.ensures (c.loop.invariant.0 c.loop.next (row_none (omega arith))) (sym c.u32-at.ensures ∙ c.if-u32-at-next.true)
+pub returns-then-u32_at-next : goal.returns-then-u32_at-next
+returns-then-u32_at-next t c =
+    tree_made (omega arith) c.in_ok-count.ensures (c.loop.invariant.0 c.loop.next (row_none (omega arith))) (sym c.u32_at.ensures ∙ c.if-u32_at-next.true)
 
-pub returns-else-u32-at-next : goal.returns-else-u32-at-next
-returns-else-u32-at-next t c = λ k x.
+pub returns-else-u32_at-next : goal.returns-else-u32_at-next
+returns-else-u32_at-next t c = λ k x.
     let a = tree_apart x in
-    let r = c.loop.invariant.1 k (row-counted (fit_one a.fit c.in-ok-count.ensures) a.row) in
+    let r = c.loop.invariant.1 k (row-counted (fit_one a.fit c.in_ok-count.ensures) a.row) in
     let e = row_empty (row-counted (omega arith) r) in
     omega (arith, a.end)

@@ -1,17 +1,17 @@
-use Rattle.std.proofs.Common.{◌≡◌, ℕ, ◌+◌, ◌^◌, ◌<◌, ◌≤◌, length, Err, sym, refl, ap, ◌∙◌, arith, rules}
+use Rattle.std.proofs.Common.{ℕ, ◌+◌, ◌^◌, ◌≤◌, length, Err, sym, refl, ap, ◌∙◌, arith, rules}
 use Rattle.std.proofs.lemmas.Result.{err_from_is_err_and}
 use Rattle.slip.specs.Slips.{answer_of}
 use Rattle.tape.specs.Opens.{view_of}
 use Rattle.shelf.proofs.Holding.{used-fits}
 use Rattle.shelf.proofs.Positions.{none_bad}
-use Rattle.shelf.proofs.Adding.{few, short, another, records_fit, area_size, area_zero, size_fits, adds_none, adds}
+use Rattle.shelf.proofs.Adding.{few, short, records_fit, area_size, area_zero, size_fits, adds_none, adds}
 use Rattle.shelf.proofs.Shelf.add.Goals as goal
 
-pub slice-bounds-write-count : goal.slice-bounds-write-count
-slice-bounds-write-count g c = omega (arith, c.start-from.ensures, used-fits c.requires.standing.3)
+pub slice_bounds-write-count : goal.slice_bounds-write-count
+slice_bounds-write-count g c = omega (arith, c.start-from.ensures, used-fits c.requires.standing.3)
 
-pub slice-bounds-write-start : goal.slice-bounds-write-start
-slice-bounds-write-start g c = omega (arith, c.start-from.ensures, used-fits c.requires.standing.3)
+pub slice_bounds-write-start : goal.slice_bounds-write-start
+slice_bounds-write-start g c = omega (arith, c.start-from.ensures, used-fits c.requires.standing.3)
 
 pub write-requires : goal.write-requires
 write-requires g c =
@@ -20,8 +20,8 @@ write-requires g c =
     let t = view_of c.args.tape in
     let ps = c.args.positions.now in
     let lent = length c.args.work.now in
-    let fine = sym c.in-ok-check-positions.ensures in
-    let space = sym (c.is-full.ensures s.0 s.1 s.2 h) ∙ c.if-is-full.false in
+    let fine = sym c.in_ok-check_positions.ensures in
+    let space = sym (c.is_full.ensures s.0 s.1 s.2 h) ∙ c.if-is_full.false in
     let size = area_size h t ps lent fine space c.start-from.result c.start-from.ensures in
     record {
       tape = c.requires.tape;
@@ -34,17 +34,17 @@ write-requires g c =
       free = area_zero h t ps lent fine space c.start-from.result c.start-from.ensures;
     }
 
-pub returns-in-err-size : goal.returns-in-err-size
-returns-in-err-size g c =
+pub returns-in_err-size : goal.returns-in_err-size
+returns-in_err-size g c =
     let t = view_of c.args.tape in
     let ps = c.args.positions.now in
     let lent = length c.args.work.now in
-    let fine = sym c.in-ok-check-positions.ensures in
-    let p = err_from_is_err_and c.from-residual-in-err-size.result c.from-residual-in-err-size.ensures.1 in
+    let fine = sym c.in_ok-check_positions.ensures in
+    let p = err_from_is_err_and c.from_residual-in_err-size.result c.from_residual-in_err-size.ensures.1 in
     record {
       does = λ root size held h.
-          let space = sym (c.is-full.ensures root size held h) ∙ c.if-is-full.false in
-          let d = adds_none h t ps lent fine space c.start-from.result c.start-from.ensures c.write.new.area c.in-err-size.field-0.0 (c.in-err-size.ensures root size h.tree) in
+          let space = sym (c.is_full.ensures root size held h) ∙ c.if-is_full.false in
+          let d = adds_none h t ps lent fine space c.start-from.result c.start-from.ensures c.write.new.area c.in_err-size.field-0.0 (c.in_err-size.ensures root size h.tree) in
           record { answered = ap (answer_of {A = ℕ}) (p.1 ∙ ap Err p.2) ∙ d.answered; holds = d.holds };
       page = refl;
       schema = refl;
@@ -52,24 +52,24 @@ returns-in-err-size g c =
       custom = refl;
     }
 
-pub overflow-add-self : goal.overflow-add-self
-overflow-add-self g c =
+pub overflow_add-self : goal.overflow_add-self
+overflow_add-self g c =
     let s = c.requires.standing in
     let h = s.3 in
-    let fine = sym c.in-ok-check-positions.ensures in
-    let space = sym (c.is-full.ensures s.0 s.1 s.2 h) ∙ c.if-is-full.false in
-    let w = c.in-ok-size.ensures s.0 s.1 h.tree in
-    let n : c.start-from.result + c.in-ok-size.size ≤ 2 ^ 24 = omega (arith, h.small, size_fits h (view_of c.args.tape) c.args.positions.now (length c.args.work.now) fine space c.start-from.result c.start-from.ensures c.write.new.area c.in-ok-size.size w c.write.auto.area) in
+    let fine = sym c.in_ok-check_positions.ensures in
+    let space = sym (c.is_full.ensures s.0 s.1 s.2 h) ∙ c.if-is_full.false in
+    let w = c.in_ok-size.ensures s.0 s.1 h.tree in
+    let n : c.start-from.result + c.in_ok-size.size ≤ 2 ^ 24 = omega (arith, h.small, size_fits h (view_of c.args.tape) c.args.positions.now (length c.args.work.now) fine space c.start-from.result c.start-from.ensures c.write.new.area c.in_ok-size.size w c.write.auto.area) in
     search rules
 
-pub overflow-cast-self : goal.overflow-cast-self
-overflow-cast-self g c =
+pub overflow_cast-self : goal.overflow_cast-self
+overflow_cast-self g c =
     let s = c.requires.standing in
     let h = s.3 in
-    let fine = sym c.in-ok-check-positions.ensures in
-    let space = sym (c.is-full.ensures s.0 s.1 s.2 h) ∙ c.if-is-full.false in
-    let w = c.in-ok-size.ensures s.0 s.1 h.tree in
-    let n : c.start-from.result + c.in-ok-size.size ≤ 2 ^ 24 = omega (arith, h.small, size_fits h (view_of c.args.tape) c.args.positions.now (length c.args.work.now) fine space c.start-from.result c.start-from.ensures c.write.new.area c.in-ok-size.size w c.write.auto.area) in
+    let fine = sym c.in_ok-check_positions.ensures in
+    let space = sym (c.is_full.ensures s.0 s.1 s.2 h) ∙ c.if-is_full.false in
+    let w = c.in_ok-size.ensures s.0 s.1 h.tree in
+    let n : c.start-from.result + c.in_ok-size.size ≤ 2 ^ 24 = omega (arith, h.small, size_fits h (view_of c.args.tape) c.args.positions.now (length c.args.work.now) fine space c.start-from.result c.start-from.ensures c.write.new.area c.in_ok-size.size w c.write.auto.area) in
     search rules
 
 pub returns : goal.returns
@@ -77,12 +77,12 @@ returns g c =
     let t = view_of c.args.tape in
     let ps = c.args.positions.now in
     let lent = length c.args.work.now in
-    let fine = sym c.in-ok-check-positions.ensures in
+    let fine = sym c.in_ok-check_positions.ensures in
     record {
       does = λ root size held h.
-          let space = sym (c.is-full.ensures root size held h) ∙ c.if-is-full.false in
-          let w = c.in-ok-size.ensures root size h.tree in
-          adds h t ps lent fine space c.start-from.result c.start-from.ensures c.write.new.area c.in-ok-size.size w c.write.auto.area;
+          let space = sym (c.is_full.ensures root size held h) ∙ c.if-is_full.false in
+          let w = c.in_ok-size.ensures root size h.tree in
+          adds h t ps lent fine space c.start-from.result c.start-from.ensures c.write.new.area c.in_ok-size.size w c.write.auto.area;
       page = refl;
       schema = refl;
       settings = refl;

@@ -10,14 +10,14 @@ use Rattle.shelf.proofs.Cells.{cell-at}
 use Rattle.shelf.proofs.Holding.{rises, ends_inside}
 use Rattle.shelf.proofs.Shelf.cell.Goals as goal
 
-pub slice-bounds-cell-count : goal.slice-bounds-cell-count
-slice-bounds-cell-count g c = let h = c.requires.3 in omega (arith, rises h c.args.batch (omega (arith, h.many)))
+pub slice_bounds-cell-count : goal.slice_bounds-cell-count
+slice_bounds-cell-count g c = let h = c.requires.3 in omega (arith, rises h c.args.batch (omega (arith, h.many)))
 
-pub slice-bounds-cell-start : goal.slice-bounds-cell-start
-slice-bounds-cell-start g c = let h = c.requires.3 in omega (arith, c.start-from.ensures, c.start-to.ensures, rises h c.args.batch (omega (arith, h.many)))
+pub slice_bounds-cell-start : goal.slice_bounds-cell-start
+slice_bounds-cell-start g c = let h = c.requires.3 in omega (arith, c.start-from.ensures, c.start-to.ensures, rises h c.args.batch (omega (arith, h.many)))
 
-pub slice-bounds-cell-end : goal.slice-bounds-cell-end
-slice-bounds-cell-end g c = let h = c.requires.3 in omega (arith, c.start-to.ensures, ends_inside h c.args.batch (omega (arith, h.many)))
+pub slice_bounds-cell-end : goal.slice_bounds-cell-end
+slice_bounds-cell-end g c = let h = c.requires.3 in omega (arith, c.start-to.ensures, ends_inside h c.args.batch (omega (arith, h.many)))
 
 pub returns : goal.returns
 returns g c = λ root size held h.

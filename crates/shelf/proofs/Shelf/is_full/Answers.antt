@@ -2,8 +2,8 @@ use Rattle.std.proofs.Common.{◌-◌, length, ap, ◌∙◌, arith}
 use Rattle.shelf.proofs.Holding.{used-fits, free_is, full_is}
 use Rattle.shelf.proofs.Shelf.is_full.Goals as goal
 
-pub overflow-sub-free : goal.overflow-sub-free
-overflow-sub-free g c = omega (arith, c.start.ensures, used-fits c.requires.3)
+pub overflow_sub-free : goal.overflow_sub-free
+overflow_sub-free g c = omega (arith, c.start.ensures, used-fits c.requires.3)
 
 pub returns : goal.returns
 returns g c = λ root size held h.

@@ -1,4 +1,4 @@
-use Rattle.std.proofs.Common.{ℕ, ◌-◌, replicate, sym, refl, ap, ◌∙◌, subst, ap₂, arith}
+use Rattle.std.proofs.Common.{◌-◌, replicate, sym, refl, ◌∙◌, subst, ap₂, arith}
 use Rattle.slip.specs.Slips.{got}
 use Rattle.octets.specs.Lists.{splice}
 use Rattle.laws.specs.Calls.{Release, release}

@@ -4,14 +4,14 @@ use Rattle.tape.proofs.Elements.{string_says, number-says, i64_says}
 use Rattle.tape.proofs.Cover.{text_within, low_within}
 use Rattle.tape.proofs.Tape.element.Goals as goal
 
-pub get-string-requires : goal.get-string-requires
-get-string-requires c =
+pub get_string-requires : goal.get_string-requires
+get_string-requires c =
     let es = c.args.self.elements.now in
     let s = string_says (letter_at es c.args.p) (number_at es c.args.p) c.in-String.k c.in-String.ensures in
     record { opened = c.requires.opened; within = omega (arith, s.1, text_within c.requires.opened c.args.p c.requires.within (inl s.0)) }
 
-pub get-string-requires-in-Number : goal.get-string-requires-in-Number
-get-string-requires-in-Number c =
+pub get_string-requires-in-Number : goal.get_string-requires-in-Number
+get_string-requires-in-Number c =
     let es = c.args.self.elements.now in
     let s = number-says (letter_at es c.args.p) (number_at es c.args.p) c.in-Number.k c.in-Number.ensures in
     record { opened = c.requires.opened; within = omega (arith, s.1, text_within c.requires.opened c.args.p c.requires.within (inr s.0)) }

@@ -8,8 +8,8 @@ loop-at-init c =
     let b = (bracket_law (view_of c.args.self) c.requires.opened c.args.p c.requires.position c.requires.bracket).1 in
     rw c.number-end.ensures (b.way, omega (arith, ap length b.all_steps))
 
-pub overflow-add-n : goal.overflow-add-n
-overflow-add-n c = omega (arith, c.loop-at.invariant.1, (bracket_law (view_of c.args.self) c.requires.opened c.args.p c.requires.position c.requires.bracket).1.few)
+pub overflow_add-n : goal.overflow_add-n
+overflow_add-n c = omega (arith, c.loop-at.invariant.1, (bracket_law (view_of c.args.self) c.requires.opened c.args.p c.requires.position c.requires.bracket).1.few)
 
 pub next-at-requires : goal.next-at-requires
 next-at-requires c =

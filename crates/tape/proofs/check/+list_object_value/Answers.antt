@@ -1,6 +1,6 @@
 use Rattle.std.proofs.Common.{◌+◌, sym, ◌∙◌, arith}
 use Rattle.tape.specs.Grammar.Leaf.{i32}
-use Rattle.tape.specs.Grammar.Value.{leaf, i64, list, object}
+use Rattle.tape.specs.Grammar.Value.{leaf, i64}
 use Rattle.tape.specs.Grammar.Values.{none, more}
 use Rattle.tape.specs.Grammar.Pairs.{no_pair, pair}
 use Rattle.tape.proofs.Reading.{within, value_facts, value_within, value_forward, values_forward, pairs_forward, list_step, list_stuck, list_stop, object_step, object_stuck, object_stop, found, held, plain, value_list, value_object, list_to, object_to, list_met, object_met}
@@ -13,16 +13,16 @@ list-returns-then-letter-eq93 t c =
     let a = sym c.letter.ensures ∙ c.if-letter-eq93.true in
     (record { values = c.loop-at.invariant.1 _ none; closes = a; within = c.loop-at-test.true }, λ k l. list_stop a k (c.loop-at.invariant.2 k l))
 
-pub list-returns-in-err-at : goal.list-returns-in-err-at
-list-returns-in-err-at t c =
-    rw c.from-residual.ensures (λ k l. list_stuck (λ a. c.if-letter-eq93.false (c.letter.ensures ∙ a)) c.in-err-at.ensures k (c.loop-at.invariant.2 k l))
+pub list-returns-in_err-at : goal.list-returns-in_err-at
+list-returns-in_err-at t c =
+    rw c.from_residual.ensures (λ k l. list_stuck (λ a. c.if-letter-eq93.false (c.letter.ensures ∙ a)) c.in_err-at.ensures k (c.loop-at.invariant.2 k l))
 
 pub list-loop-at-smaller : goal.list-loop-at-smaller
-list-loop-at-smaller t c = omega (arith, value_forward c.in-ok-at.ensures.0)
+list-loop-at-smaller t c = omega (arith, value_forward c.in_ok-at.ensures.0)
 
 pub list-loop-at-preserved : goal.list-loop-at-preserved
 list-loop-at-preserved t c =
-    let v = c.in-ok-at.ensures.0 in (
+    let v = c.in_ok-at.ensures.0 in (
       omega (arith, value_forward v),
       (λ k vs. c.loop-at.invariant.1 k (more v vs)),
       (λ k l. list_step (λ a. c.if-letter-eq93.false (c.letter.ensures ∙ a)) v k (c.loop-at.invariant.2 k l)),
@@ -38,24 +38,24 @@ object-returns-in-125 t c =
     let a = sym c.letter.ensures ∙ c.in-125.is in
     (record { pairs = c.loop-at.invariant.1 _ no_pair; closes = a; within = c.loop-at-test.true }, λ k l. object_stop a k (c.loop-at.invariant.2 k l))
 
-pub object-returns-in-default : goal.object-returns-in-default
-object-returns-in-default t c =
+pub object-returns-in_default : goal.object-returns-in_default
+object-returns-in_default t c =
     λ k l. object_stuck (λ a. omega arith) (λ s q v. omega (arith, s.letter)) k (c.loop-at.invariant.2 k l)
 
 pub object-returns-then-number-offsets : goal.object-returns-then-number-offsets
 object-returns-then-number-offsets t c =
     λ k l. object_stuck (λ a. omega arith) (λ s q v. omega (arith, s.held)) k (c.loop-at.invariant.2 k l)
 
-pub object-returns-in-err-at : goal.object-returns-in-err-at
-object-returns-in-err-at t c =
-    rw c.from-residual.ensures (λ k l. object_stuck (λ a. omega arith) (λ s. c.in-err-at.ensures) k (c.loop-at.invariant.2 k l))
+pub object-returns-in_err-at : goal.object-returns-in_err-at
+object-returns-in_err-at t c =
+    rw c.from_residual.ensures (λ k l. object_stuck (λ a. omega arith) (λ s. c.in_err-at.ensures) k (c.loop-at.invariant.2 k l))
 
 pub object-loop-at-smaller : goal.object-loop-at-smaller
-object-loop-at-smaller t c = omega (arith, value_forward c.in-ok-at.ensures.0)
+object-loop-at-smaller t c = omega (arith, value_forward c.in_ok-at.ensures.0)
 
 pub object-loop-at-preserved : goal.object-loop-at-preserved
 object-loop-at-preserved t c =
-    let v = c.in-ok-at.ensures.0 in (
+    let v = c.in_ok-at.ensures.0 in (
       omega (arith, value_forward v),
       (λ k ps. c.loop-at.invariant.1 k (pair (record { letter = sym c.letter.ensures ∙ c.in-s.is; held = omega arith }) v ps)),
       (λ k l. object_step (λ a. omega arith) v k (c.loop-at.invariant.2 k l)),
@@ -69,13 +69,13 @@ object-returns t c = λ k l. let x = c.loop-at.invariant.2 k l in omega (arith, 
 pub value-returns-then-at-elements : goal.value-returns-then-at-elements
 value-returns-then-at-elements t c = λ k v. omega (arith, value_within c.requires v)
 
-pub value-returns-in-err-end : goal.value-returns-in-err-end
-value-returns-in-err-end t c =
-    rw c.from-residual.ensures (λ k v. let x = value_list (sym c.letter.ensures ∙ c.in-91.is) v in c.in-err-end.ensures x.end (list_to c.requires x))
+pub value-returns-in_err-end-in-91 : goal.value-returns-in_err-end-in-91
+value-returns-in_err-end-in-91 t c =
+    rw c.from_residual.ensures (λ k v. let x = value_list (sym c.letter.ensures ∙ c.in-91.is) v in c.in_err-end-in-91.ensures x.end (list_to c.requires x))
 
-pub value-returns-in-err-end-2 : goal.value-returns-in-err-end-2
-value-returns-in-err-end-2 t c =
-    rw c.from-residual-in-err-end-2.ensures (λ k v. let x = value_object (sym c.letter.ensures ∙ c.in-123.is) v in c.in-err-end-2.ensures x.end (object_to c.requires x))
+pub value-returns-in_err-end-in-123 : goal.value-returns-in_err-end-in-123
+value-returns-in_err-end-in-123 t c =
+    rw c.from_residual-in_err-end-in-123.ensures (λ k v. let x = value_object (sym c.letter.ensures ∙ c.in-123.is) v in c.in_err-end-in-123.ensures x.end (object_to c.requires x))
 
 pub value-returns-in-s : goal.value-returns-in-s
 value-returns-in-s t c = found (leaf (held c.letter.ensures c.number-n.ensures c.in-s.is c.if-n-offsets.true))
@@ -89,31 +89,31 @@ value-returns-in-t t c = found (leaf (plain c.letter.ensures c.number-n.ensures 
 pub value-returns-in-j : goal.value-returns-in-j
 value-returns-in-j t c = found (i64 (sym c.letter.ensures ∙ c.in-j.is) (omega arith))
 
-pub value-returns-in-ok-end : goal.value-returns-in-ok-end
-value-returns-in-ok-end t c =
-    list_met c.args.depth c.args.at c.requires c.if-depth-gt0.true (sym c.letter.ensures ∙ c.in-91.is) c.in-ok-end.ensures c.after.result c.after.ensures
+pub value-returns-in_ok-end-in-91 : goal.value-returns-in_ok-end-in-91
+value-returns-in_ok-end-in-91 t c =
+    list_met c.args.depth c.args.at c.requires c.if-depth-gt0.true (sym c.letter.ensures ∙ c.in-91.is) c.in_ok-end-in-91.ensures c.after.result c.after.ensures
 
-pub value-returns-in-ok-end-2 : goal.value-returns-in-ok-end-2
-value-returns-in-ok-end-2 t c =
-    object_met c.args.depth c.args.at c.requires c.if-depth-gt0-2.true (sym c.letter.ensures ∙ c.in-123.is) c.in-ok-end-2.ensures c.after-in-123.result c.after-in-123.ensures
+pub value-returns-in_ok-end-in-123 : goal.value-returns-in_ok-end-in-123
+value-returns-in_ok-end-in-123 t c =
+    object_met c.args.depth c.args.at c.requires c.if-depth-gt0-2.true (sym c.letter.ensures ∙ c.in-123.is) c.in_ok-end-in-123.ensures c.after-in-123.result c.after-in-123.ensures
 
-pub value-returns-in-default : goal.value-returns-in-default
-value-returns-in-default t c = λ k v. omega (arith, value_facts v)
+pub value-returns-in_default : goal.value-returns-in_default
+value-returns-in_default t c = λ k v. omega (arith, value_facts v)
 
-pub value-returns-in-default·2 : goal.value-returns-in-default·2
-value-returns-in-default·2 t c = λ k v. omega (arith, value_facts v)
+pub value-returns-in_default-2 : goal.value-returns-in_default-2
+value-returns-in_default-2 t c = λ k v. omega (arith, value_facts v)
 
-pub value-returns-in-default·3 : goal.value-returns-in-default·3
-value-returns-in-default·3 t c = λ k v. omega (arith, value_facts v)
+pub value-returns-in_default-3 : goal.value-returns-in_default-3
+value-returns-in_default-3 t c = λ k v. omega (arith, value_facts v)
 
-pub value-returns-in-default·4 : goal.value-returns-in-default·4
-value-returns-in-default·4 t c = λ k v. omega (arith, value_facts v, within c.args.elements.now (c.args.at + 1) c.requires)
+pub value-returns-in_default-4 : goal.value-returns-in_default-4
+value-returns-in_default-4 t c = λ k v. omega (arith, value_facts v, within c.args.elements.now (c.args.at + 1) c.requires)
 
-pub value-returns-in-default·5 : goal.value-returns-in-default·5
-value-returns-in-default·5 t c = λ k v. omega (arith, value_facts v)
+pub value-returns-in_default-5 : goal.value-returns-in_default-5
+value-returns-in_default-5 t c = λ k v. omega (arith, value_facts v)
 
-pub value-returns-in-default·6 : goal.value-returns-in-default·6
-value-returns-in-default·6 t c = λ k v. omega (arith, value_facts v)
+pub value-returns-in_default-6 : goal.value-returns-in_default-6
+value-returns-in_default-6 t c = λ k v. omega (arith, value_facts v)
 
-pub value-returns-in-default·7 : goal.value-returns-in-default·7
-value-returns-in-default·7 t c = λ k v. grind (arith, value_facts v)
+pub value-returns-in_default-7 : goal.value-returns-in_default-7
+value-returns-in_default-7 t c = λ k v. grind (arith, value_facts v)

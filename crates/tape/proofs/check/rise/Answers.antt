@@ -4,7 +4,7 @@ use Rattle.tape.specs.Layout.{offset_at, offset_count}
 use Rattle.tape.specs.Opens.{Rise}
 use Rattle.tape.proofs.Reading.{never}
 use Rattle.tape.proofs.check.rise.Goals as goal
-use Rattle.tape.proofs.check.rise.Goals.{then-next-last-via-then-next-last, then-next-last-via-else-next-last+then-not-is-char-boundary}
+use Rattle.tape.proofs.check.rise.Goals.{then-next-last-via-then-next-last, then-next-last-via-else-next-last+then-not-is_char_boundary}
 
 falls : (ts os : List ℕ) (last k : ℕ) → ((j : ℕ) → j + 1 ≡ k → last ≡ offset_at os j) → (k ≡ 0 → last ≡ 0) → k < offset_count os → offset_at os k < last → Rise ts os → ⊥
 falls ts os last zero before start h f r = omega arith
@@ -17,7 +17,7 @@ returns-then-next-last c =
     never (λ r. elim c.then-next-last.branch [
       | then-next-last-via-then-next-last w ↦
           falls c.args.text.now c.args.offsets.now c.loop-k.last c.loop-k.k c.loop-k.invariant.2 c.loop-k.invariant.3 (omega arith) (omega arith) r
-      | then-next-last-via-else-next-last+then-not-is-char-boundary w ↦
-          let no_cut = rw w.if-not-is-char-boundary.true at (cases_from_iff w.is-char-boundary.ensures.test) in
+      | then-next-last-via-else-next-last+then-not-is_char_boundary w ↦
+          let no_cut = rw w.if-not-is_char_boundary.true at (cases_from_iff w.is_char_boundary.ensures.test) in
           no_cut (rw c.offset-next.ensures (r.uncut c.loop-k.k (omega arith)))
     ])

@@ -6,7 +6,7 @@ use Rattle.columns.proofs.spans.Spans.new.Goals as goal
 pub returns : goal.returns
 returns c =
     let b = branch_of c.args.shape in
-    let p = planned b c.args.slots c.args.nulls _ refl refl c.bits-size.ensures c.offsets-size.ensures c.sizes-size.ensures in
+    let p = planned b c.args.slots c.args.nulls _ refl refl c.bits_size.ensures c.offsets_size.ensures c.sizes_size.ensures in
     record {
       laid = record { few = c.requires; plans = p };
       same = (refl, (refl, refl));

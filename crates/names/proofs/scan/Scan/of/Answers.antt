@@ -2,11 +2,11 @@ use Rattle.std.proofs.Common.{refl, arith}
 use Rattle.names.proofs.Fields.{heading_turn, heading_more, scan_made}
 use Rattle.names.proofs.scan.Scan.of.Goals as goal
 
-pub overflow-cast-heads : goal.overflow-cast-heads
-overflow-cast-heads c = omega (arith, (heading_turn c.args.node c.requires.opened.1 c.requires.within c.requires.kind c.count-count.ensures.said c.loop-place-test.true c.loop-place.invariant).small)
+pub overflow_cast-heads : goal.overflow_cast-heads
+overflow_cast-heads c = omega (arith, (heading_turn c.args.node c.requires.opened.1 c.requires.within c.requires.kind c.count-count.ensures.said c.loop-place-test.true c.loop-place.invariant).small)
 
-pub offset-bounds-heads-place : goal.offset-bounds-heads-place
-offset-bounds-heads-place c = omega (arith, (heading_turn c.args.node c.requires.opened.1 c.requires.within c.requires.kind c.count-count.ensures.said c.loop-place-test.true c.loop-place.invariant).below)
+pub offset_bounds-heads-place : goal.offset_bounds-heads-place
+offset_bounds-heads-place c = omega (arith, (heading_turn c.args.node c.requires.opened.1 c.requires.within c.requires.kind c.count-count.ensures.said c.loop-place-test.true c.loop-place.invariant).below)
 
 pub bounds-heads-place : goal.bounds-heads-place
 bounds-heads-place c = (heading_turn c.args.node c.requires.opened.1 c.requires.within c.requires.kind c.count-count.ensures.said c.loop-place-test.true c.loop-place.invariant).below

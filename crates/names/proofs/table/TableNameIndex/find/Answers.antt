@@ -1,4 +1,4 @@
-use Rattle.std.proofs.Common.{◌-◌, Some, None, sym, arith}
+use Rattle.std.proofs.Common.{Some, None, sym, arith}
 use Rattle.names.specs.Scans.{scan_names}
 use Rattle.names.proofs.Lowests.{lowest_is}
 use Rattle.names.proofs.Fields.{names_long}
@@ -14,8 +14,8 @@ returns-in-0 c =
     lowest_is (scan_names s) c.args.name.now None
     (λ j l. not_there c.requires.keyed c.seek-slot.ensures.sought c.in-0.is j (omega (arith, names_long s c.requires.scan)))
 
-pub returns-in-default : goal.returns-in-default
-returns-in-default c =
+pub returns-in_default : goal.returns-in_default
+returns-in_default c =
     let s = c.args.self.now.scan in
     lowest_is (scan_names s) c.args.name.now (Some _)
     (found c.requires.keyed (sym (names_long s c.requires.scan)) c.seek-slot.ensures.sought (omega arith))

@@ -18,15 +18,15 @@ use Rattle.rows.proofs.Starts.{bracket-null}
 use Rattle.rows.proofs.Sizes.{items_there, size_there, filled-there, positions_there, singles_positions, zeros_positions, fixed_there, fixed_count}
 use Rattle.rows.proofs.lists.FixedRowsRowKind.fill.Goals as goal
 
-pub put-entries-items-requires : goal.put-entries-items-requires
-put-entries-items-requires c =
+pub put_entries-items-requires : goal.put_entries-items-requires
+put_entries-items-requires c =
     let r = c.args.reading in
     let p = c.args.p in
     let t = view_of r.tape in
     let es = entries t p in
     let b = fixed c.args.self.now.count in
     let cs = named ([] ∷ []) in
-    let open_at : is_at t (the "[") p ≡ true = sym c.is-bracket.ensures ∙ c.if-is-bracket.true in
+    let open_at : is_at t (the "[") p ≡ true = sym c.is_bracket.ensures ∙ c.if-is_bracket.true in
     let there : row_there r b cs p ≡ some (singles es) = ap accepted (fixed_there r cs p c.args.self.now.count open_at (fixed_count r cs p c.args.self.now.count open_at c.requires.accepted)) in
     record {
       opened = c.requires.opened;
@@ -36,50 +36,50 @@ put-entries-items-requires c =
       apart = omega arith;
     }
 
-pub returns-then-is-bracket : goal.returns-then-is-bracket
-returns-then-is-bracket c =
+pub returns-then-is_bracket : goal.returns-then-is_bracket
+returns-then-is_bracket c =
     let r = c.args.reading in
     let p = c.args.p in
     let t = view_of r.tape in
     let es = entries t p in
     let b = fixed c.args.self.now.count in
     let cs = named ([] ∷ []) in
-    let open_at : is_at t (the "[") p ≡ true = sym c.is-bracket.ensures ∙ c.if-is-bracket.true in
+    let open_at : is_at t (the "[") p ≡ true = sym c.is_bracket.ensures ∙ c.if-is_bracket.true in
     let there : row_there r b cs p ≡ some (singles es) = ap accepted (fixed_there r cs p c.args.self.now.count open_at (fixed_count r cs p c.args.self.now.count open_at c.requires.accepted)) in
-    let n : c.put-entries-items.result ≡ length (singles es) = c.put-entries-items.ensures.count ∙ sym (length-map es (λ e. e ∷ [])) in
+    let n : c.put_entries-items.result ≡ length (singles es) = c.put_entries-items.ensures.count ∙ sym (length-map es (λ e. e ∷ [])) in
     let sized : ℕ → Row = λ m. record { null = false; items = m } in
     record {
       said = ap sized n ∙ size_there r b cs p (some (singles es)) there;
-      filled = filled-there r b cs p (some (singles es)) there (spread_singles c.args.-stride c.args.at es c.args.work.now c.put-entries-items.new.work c.put-entries-items.ensures.spread);
+      filled = filled-there r b cs p (some (singles es)) there (spread_singles c.args._stride c.args.at es c.args.work.now c.put_entries-items.new.work c.put_entries-items.ensures.spread);
       positions = positions_there r b cs p (some (singles es)) there t (singles_positions t c.requires.opened es (list_law t c.requires.opened p c.requires.position open_at).positions);
     }
 
-pub put-zeros-requires : goal.put-zeros-requires
-put-zeros-requires c =
+pub put_zeros-requires : goal.put_zeros-requires
+put_zeros-requires c =
     let r = c.args.reading in
     let p = c.args.p in
     let b = fixed c.args.self.now.count in
     let cs = named ([] ∷ []) in
-    let e : row_there r b cs p ≡ none = ap accepted (bracket-null r cs p b (sym c.is-bracket.ensures ∙ c.if-is-bracket.false) c.requires.accepted) in
+    let e : row_there r b cs p ≡ none = ap accepted (bracket-null r cs p b (sym c.is_bracket.ensures ∙ c.if-is_bracket.false) c.requires.accepted) in
     record {
       room = λ j h. omega (arith, c.requires.room, c.requires.lent, ap length (items_there r b cs p none e), length-replicate c.args.self.now.count (zeros cs));
       apart = omega arith;
     }
 
-pub returns-else-is-bracket : goal.returns-else-is-bracket
-returns-else-is-bracket c =
+pub returns-else-is_bracket : goal.returns-else-is_bracket
+returns-else-is_bracket c =
     let r = c.args.reading in
     let p = c.args.p in
     let n = c.args.self.now.count in
     let b = fixed n in
     let cs = named ([] ∷ []) in
-    let e : row_there r b cs p ≡ none = ap accepted (bracket-null r cs p b (sym c.is-bracket.ensures ∙ c.if-is-bracket.false) c.requires.accepted) in
+    let e : row_there r b cs p ≡ none = ap accepted (bracket-null r cs p b (sym c.is_bracket.ensures ∙ c.if-is_bracket.false) c.requires.accepted) in
     let sized : ℕ → Row = λ m. record { null = true; items = m } in
     let A = c.args.work.now in
-    let B = c.put-zeros.new.work in
-    let f = spread_singles c.args.-stride c.args.at (replicate {A = ℕ} n 0) A B c.put-zeros.ensures in
+    let B = c.put_zeros.new.work in
+    let f = spread_singles c.args._stride c.args.at (replicate {A = ℕ} n 0) A B c.put_zeros.ensures in
     record {
       said = ap sized (sym (length-replicate n (zeros cs))) ∙ size_there r b cs p none e;
-      filled = filled-there r b cs p none e (subst (λ xs. Filled 1 c.args.-stride c.args.at xs A B) (singles-zeros n) f);
+      filled = filled-there r b cs p none e (subst (λ xs. Filled 1 c.args._stride c.args.at xs A B) (singles-zeros n) f);
       positions = positions_there r b cs p none e (view_of r.tape) (zeros_positions (view_of r.tape) c.requires.opened n 1);
     }

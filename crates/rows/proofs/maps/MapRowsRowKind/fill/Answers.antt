@@ -14,15 +14,15 @@ use Rattle.rows.proofs.Starts.{bracket-there, bracket-null}
 use Rattle.rows.proofs.Sizes.{items_there, size_there, filled-there, positions_there, pairs_positions, zero_position}
 use Rattle.rows.proofs.maps.MapRowsRowKind.fill.Goals as goal
 
-pub put-pairs-items-requires : goal.put-pairs-items-requires
-put-pairs-items-requires c =
+pub put_pairs-items-requires : goal.put_pairs-items-requires
+put_pairs-items-requires c =
     let r = c.args.reading in
     let p = c.args.p in
     let t = view_of r.tape in
     let es = entries t p in
     let b = Branch.map in
     let cs = named ([] ∷ ([] ∷ [])) in
-    let open_at : is_at t (the "{") p ≡ true = sym c.is-bracket.ensures ∙ c.if-is-bracket.true in
+    let open_at : is_at t (the "{") p ≡ true = sym c.is_bracket.ensures ∙ c.if-is_bracket.true in
     let there : row_there r b cs p ≡ some (pairs es) = ap accepted (bracket-there r cs p b open_at) in
     record {
       opened = c.requires.opened;
@@ -32,31 +32,31 @@ put-pairs-items-requires c =
       lent = c.requires.lent;
     }
 
-pub returns-then-is-bracket : goal.returns-then-is-bracket
-returns-then-is-bracket c =
+pub returns-then-is_bracket : goal.returns-then-is_bracket
+returns-then-is_bracket c =
     let r = c.args.reading in
     let p = c.args.p in
     let t = view_of r.tape in
     let es = entries t p in
     let b = Branch.map in
     let cs = named ([] ∷ ([] ∷ [])) in
-    let open_at : is_at t (the "{") p ≡ true = sym c.is-bracket.ensures ∙ c.if-is-bracket.true in
+    let open_at : is_at t (the "{") p ≡ true = sym c.is_bracket.ensures ∙ c.if-is_bracket.true in
     let there : row_there r b cs p ≡ some (pairs es) = ap accepted (bracket-there r cs p b open_at) in
-    let n : c.put-pairs-items.result ≡ length (pairs es) = c.put-pairs-items.ensures.count in
+    let n : c.put_pairs-items.result ≡ length (pairs es) = c.put_pairs-items.ensures.count in
     let sized : ℕ → Row = λ m. record { null = false; items = m } in
     record {
       said = ap sized n ∙ size_there r b cs p (some (pairs es)) there;
-      filled = filled-there r b cs p (some (pairs es)) there c.put-pairs-items.ensures.filled;
+      filled = filled-there r b cs p (some (pairs es)) there c.put_pairs-items.ensures.filled;
       positions = positions_there r b cs p (some (pairs es)) there t (pairs_positions t c.requires.opened es (object_law t c.requires.opened p c.requires.position open_at).bracketed.positions);
     }
 
-pub returns-else-is-bracket : goal.returns-else-is-bracket
-returns-else-is-bracket c =
+pub returns-else-is_bracket : goal.returns-else-is_bracket
+returns-else-is_bracket c =
     let r = c.args.reading in
     let p = c.args.p in
     let b = Branch.map in
     let cs = named ([] ∷ ([] ∷ [])) in
-    let e : row_there r b cs p ≡ none = ap accepted (bracket-null r cs p b (sym c.is-bracket.ensures ∙ c.if-is-bracket.false) c.requires.accepted) in
+    let e : row_there r b cs p ≡ none = ap accepted (bracket-null r cs p b (sym c.is_bracket.ensures ∙ c.if-is_bracket.false) c.requires.accepted) in
     record {
       said = size_there r b cs p none e;
       filled = filled-there r b cs p none e (filled_none 2 c.args.stride c.args.at c.args.work.now);

@@ -15,14 +15,14 @@ use Rattle.rows.proofs.Sizes.{items_there, size_there, filled-there, positions_t
 use Rattle.rows.proofs.Starts.{bracket-null}
 use Rattle.rows.proofs.structs.StructRowsRowKind.fill.Goals as goal
 
-pub put-item-requires : goal.put-item-requires
-put-item-requires g c =
+pub put_item-requires : goal.put_item-requires
+put_item-requires g c =
     let r = c.args.reading in
     let p = c.args.p in
     let t = view_of r.tape in
     let ns = g.N.NameIndex.names c.args.self.now.index.now in
     let cs = named ns in
-    let begun : is_at t (bracket r.settings.list_rows) p ≡ true = sym c.is-bracket.ensures ∙ c.if-is-bracket.true in
+    let begun : is_at t (bracket r.settings.list_rows) p ≡ true = sym c.is_bracket.ensures ∙ c.if-is_bracket.true in
     let g-item = accepted-item r ns p begun c.requires.accepted in
     let item = got_of (item_in r ns p) g-item in
     let there : row_there r fieldwise cs p ≡ some (item.0 ∷ []) = ap accepted (row-item r ns p begun item.0 item.1) in
@@ -37,28 +37,28 @@ put-item-requires g c =
       apart = omega arith;
     }
 
-pub put-zeros-requires : goal.put-zeros-requires
-put-zeros-requires g c =
+pub put_zeros-requires : goal.put_zeros-requires
+put_zeros-requires g c =
     let r = c.args.reading in
     let p = c.args.p in
     let t = view_of r.tape in
     let ns = g.N.NameIndex.names c.args.self.now.index.now in
     let cs = named ns in
-    let e : row_there r fieldwise cs p ≡ none = ap accepted (bracket-null r cs p fieldwise (sym c.is-bracket.ensures ∙ c.if-is-bracket.false) c.requires.accepted) in
+    let e : row_there r fieldwise cs p ≡ none = ap accepted (bracket-null r cs p fieldwise (sym c.is_bracket.ensures ∙ c.if-is_bracket.false) c.requires.accepted) in
     let room : c.args.at + 1 ≤ c.args.stride = omega (arith, c.requires.room, ap length (items_there r fieldwise cs p none e)) in
     record {
       room = row_room ns c.args.self.now.fields c.args.stride c.args.at (length c.args.work.now) c.requires.ready.count room c.requires.lent;
       apart = omega arith;
     }
 
-pub returns-then-is-bracket : goal.returns-then-is-bracket
-returns-then-is-bracket g c =
+pub returns-then-is_bracket : goal.returns-then-is_bracket
+returns-then-is_bracket g c =
     let r = c.args.reading in
     let p = c.args.p in
     let t = view_of r.tape in
     let ns = g.N.NameIndex.names c.args.self.now.index.now in
     let cs = named ns in
-    let begun : is_at t (bracket r.settings.list_rows) p ≡ true = sym c.is-bracket.ensures ∙ c.if-is-bracket.true in
+    let begun : is_at t (bracket r.settings.list_rows) p ≡ true = sym c.is_bracket.ensures ∙ c.if-is_bracket.true in
     let g-item = accepted-item r ns p begun c.requires.accepted in
     let item = got_of (item_in r ns p) g-item in
     let there : row_there r fieldwise cs p ≡ some (item.0 ∷ []) = ap accepted (row-item r ns p begun item.0 item.1) in
@@ -67,24 +67,24 @@ returns-then-is-bracket g c =
     record {
       said = size_there r fieldwise cs p (some (item.0 ∷ [])) there;
       filled = filled-there r fieldwise cs p (some (item.0 ∷ [])) there
-          (spread_item (many cs) c.args.stride c.args.at item.0 c.args.work.now c.put-item.new.work (c.put-item.ensures item.0 item.1) (omega arith) (item-length r ns p c.requires.opened es item.0 item.1 ∙ sym (many-named ns)));
+          (spread_item (many cs) c.args.stride c.args.at item.0 c.args.work.now c.put_item.new.work (c.put_item.ensures item.0 item.1) (omega arith) (item-length r ns p c.requires.opened es item.0 item.1 ∙ sym (many-named ns)));
       positions = positions_there r fieldwise cs p (some (item.0 ∷ [])) there t (one_position t c.requires.opened item.0 (item_positions r ns p c.requires.opened es item.0 item.1));
     }
 
-pub returns-else-is-bracket : goal.returns-else-is-bracket
-returns-else-is-bracket g c =
+pub returns-else-is_bracket : goal.returns-else-is_bracket
+returns-else-is_bracket g c =
     let r = c.args.reading in
     let p = c.args.p in
     let t = view_of r.tape in
     let ns = g.N.NameIndex.names c.args.self.now.index.now in
     let cs = named ns in
-    let e : row_there r fieldwise cs p ≡ none = ap accepted (bracket-null r cs p fieldwise (sym c.is-bracket.ensures ∙ c.if-is-bracket.false) c.requires.accepted) in
+    let e : row_there r fieldwise cs p ≡ none = ap accepted (bracket-null r cs p fieldwise (sym c.is_bracket.ensures ∙ c.if-is_bracket.false) c.requires.accepted) in
     let room : c.args.at + 1 ≤ c.args.stride = omega (arith, c.requires.room, ap length (items_there r fieldwise cs p none e)) in
     let n = many cs in
-    let spread = subst (λ m. Spread c.args.at c.args.stride (replicate {A = ℕ} m 0) c.args.work.now c.put-zeros.new.work) (c.requires.ready.count ∙ sym (many-named ns)) c.put-zeros.ensures in
+    let spread = subst (λ m. Spread c.args.at c.args.stride (replicate {A = ℕ} m 0) c.args.work.now c.put_zeros.new.work) (c.requires.ready.count ∙ sym (many-named ns)) c.put_zeros.ensures in
     record {
       said = size_there r fieldwise cs p none e;
       filled = filled-there r fieldwise cs p none e
-          (spread_item n c.args.stride c.args.at (replicate {A = ℕ} n 0) c.args.work.now c.put-zeros.new.work spread (omega arith) (length-replicate {A = ℕ} n 0));
+          (spread_item n c.args.stride c.args.at (replicate {A = ℕ} n 0) c.args.work.now c.put_zeros.new.work spread (omega arith) (length-replicate {A = ℕ} n 0));
       positions = positions_there r fieldwise cs p none e t (one_position t c.requires.opened (replicate {A = ℕ} n 0) (λ k. zeros_position t c.requires.opened n k));
     }
