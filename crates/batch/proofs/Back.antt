@@ -4,7 +4,7 @@ use mathlib.Core.Option.{Option, none, some}
 use native.Mathlib.Nat.{min-eq_left}
 use lib.Dec.{eqb-suc-zero}
 use lib.ListN.{length-map}
-use Rattle.std.specs.List.{AllByRecursion as All}
+use Rattle.std.specs.List.{AllByRecursion}
 use Rattle.std.proofs.lemmas.List.{get_or-map, drop_more}
 use Rattle.std.proofs.ByRecursion.{All-append, All-map, All-weaker, All-get_or}
 use Rattle.octets.specs.Lists.{part, joined, between}
@@ -24,19 +24,19 @@ use Rattle.batch.proofs.Sized.{hidden_sized_item}
 use Rattle.batch.proofs.Columns.{branch_slots, leaf_slots, length-columns}
 use Rattle.batch.proofs.Slots.{Spanned, SlotIs, slot_is, InData, leaf_is, leaf_in_lem}
 
-all_replicate : {A : Type 0} (P : A → Type 0) (n : ℕ) (a : A) → P a → All P (replicate n a)
+all_replicate : {A : Type 0} (P : A → Type 0) (n : ℕ) (a : A) → P a → AllByRecursion P (replicate n a)
 all_replicate P zero a p = tt
 all_replicate P (suc n) a p = (p, all_replicate P n a p)
 
-pub all-taken : {A : Type 0} (b : Branch) (P : A → Type 0) (Q : List A → Type 0) (a : A) → P a → (os : List (Option (List A))) → All (Present (λ is. Q is × All P is)) os → All P (joined (map (taken b a) os))
+pub all-taken : {A : Type 0} (b : Branch) (P : A → Type 0) (Q : List A → Type 0) (a : A) → P a → (os : List (Option (List A))) → AllByRecursion (Present (λ is. Q is × AllByRecursion P is)) os → AllByRecursion P (joined (map (taken b a) os))
 all-taken b P Q a p [] h = tt
 all-taken b P Q a p (none ∷ os) h = All-append P (replicate (hides b) a) (joined (map (taken b a) os)) (all_replicate P (hides b) a p) (all-taken b P Q a p os h.1)
 all-taken b P Q a p (some xs ∷ os) h = All-append P xs (joined (map (taken b a) os)) h.0.1 (all-taken b P Q a p os h.1)
 
-pub all_present : {A : Type 0} (b : Branch) (P : A → Type 0) (a : A) → P a → (os : List (Option (List A))) → All (Present (All P)) os → All P (joined (map (taken b a) os))
-all_present {A} b P a p os h = all-taken b P (λ is. Unit {0}) a p os (All-weaker (Present (All P)) (Present (λ is. Unit {0} × All P is)) with_unit os h)
+pub all_present : {A : Type 0} (b : Branch) (P : A → Type 0) (a : A) → P a → (os : List (Option (List A))) → AllByRecursion (Present (AllByRecursion P)) os → AllByRecursion P (joined (map (taken b a) os))
+all_present {A} b P a p os h = all-taken b P (λ is. Unit {0}) a p os (All-weaker (Present (AllByRecursion P)) (Present (λ is. Unit {0} × AllByRecursion P is)) with_unit os h)
   where
-    with_unit : (o : Option (List A)) → Present (All P) o → Present (λ is. Unit {0} × All P is) o
+    with_unit : (o : Option (List A)) → Present (AllByRecursion P) o → Present (λ is. Unit {0} × AllByRecursion P is) o
     with_unit none h = tt
     with_unit (some is) h = (tt, h)
 
@@ -195,7 +195,7 @@ module _ (st : Setup) (well : WellFormed st.root) (page : List ℕ) (base : ℕ)
 
   mutual
     -- a node whose columns are stored from the index i on
-    pub back : (c : Node) (i : ℕ) (more : List Node) → drop i (nodes st.root) ≡ nodes c ++ more → (os : List (Value c)) → All (Sized st c) os → AllStored all i (columns st c os)
+    pub back : (c : Node) (i : ℕ) (more : List Node) → drop i (nodes st.root) ≡ nodes c ++ more → (os : List (Value c)) → AllByRecursion (Sized st c) os → AllStored all i (columns st c os)
         → Back (value_in st (column_in all) c) (read ask page c) os
     back (branch f b cs) i more e os z s =
         let c = stands st.root well (branch f b cs) i (nodes_in cs ++ more) e in
@@ -209,11 +209,11 @@ module _ (st : Setup) (well : WellFormed st.root) (page : List ℕ) (base : ℕ)
         record {
           gives = λ k d h.
               ap (λ c. cond (is_valid c k) (some (map G (between (span b c k).0 (span b c k).1))) none) (ap (column_in all) c.number ∙ s.0.is)
-              ∙ gives_slot b col is k G under.gives (get_or os k d) (slot_is (hidden_item st cs) os b (All (SizedItem st cs)) z few k d h);
+              ∙ gives_slot b col is k G under.gives (get_or os k d) (slot_is (hidden_item st cs) os b (AllByRecursion (SizedItem st cs)) z few k d h);
           reads = λ k d h.
               ap (λ m. then m (leads R)) (asked (branch f b cs) i (nodes_in cs ++ more) c k (rw (slots_are st all (branch f b cs) os i s).0 h))
               ∙ ap (λ c. leads R (cond (is_valid c k) (shape_cell (branch_shape b) place c k) (cell_of 0 0 0))) s.0.is
-              ∙ leads_slot b col is k R place under.reads (get_or os k d) (slot_is (hidden_item st cs) os b (All (SizedItem st cs)) z few k d h);
+              ∙ leads_slot b col is k R place under.reads (get_or os k d) (slot_is (hidden_item st cs) os b (AllByRecursion (SizedItem st cs)) z few k d h);
         }
     back (leaf f l) i more e os z s =
         let c = stands st.root well (leaf f l) i more e in
@@ -233,7 +233,7 @@ module _ (st : Setup) (well : WellFormed st.root) (page : List ℕ) (base : ℕ)
               ∙ ap got (leaf_is os layout l z small k d h);
         }
 
-    back_items : (cs : Fields) (i : ℕ) (more : List Node) → drop i (nodes st.root) ≡ nodes_in cs ++ more → (is : List (Item cs)) → All (SizedItem st cs) is → AllStored all i (columns_in st cs is)
+    back_items : (cs : Fields) (i : ℕ) (more : List Node) → drop i (nodes st.root) ≡ nodes_in cs ++ more → (is : List (Item cs)) → AllByRecursion (SizedItem st cs) is → AllStored all i (columns_in st cs is)
         → Back (item_in st (column_in all) cs) (read_item ask page cs) is
     back_items Fields.none i more e is z s = record { gives = λ k d h. refl; reads = λ k d h. refl }
     back_items (c ⊕ cs) i more e is z s =

@@ -1,7 +1,7 @@
 -- Where the leaves of row values hold bytes, a batch is bytes.
 use Rattle.std.proofs.Common.{ℕ, zero, suc, ◌+◌, ◌-◌, ◌*◌, ◌/◌, ◌^◌, ◌<◌, ◌≤◌, Bool, true, false, cond, eqb, List, [], ◌∷◌, ◌++◌, map, length, get_or, drop, replicate, pow-suc, arith, length-take, pow_mono}
 use mathlib.Core.Option.{Option, none, some}
-use Rattle.std.specs.List.{AllByRecursion as All}
+use Rattle.std.specs.List.{AllByRecursion}
 use Rattle.std.proofs.ByRecursion.{All-append, All-map, All-weaker}
 use Rattle.octets.specs.Lists.{part, joined, between, running, starts, is_some, or_else}
 use Rattle.octets.specs.Numbers.{le, padded, pad, numbers, weighed, packed}
@@ -26,7 +26,7 @@ Byte b = b < 256
 both : (xs ys : List ℕ) → AreBytes xs → AreBytes ys → AreBytes (xs ++ ys)
 both xs ys p q = All-append Byte xs ys p q
 
-ends : (xss : List (List ℕ)) → All AreBytes xss → AreBytes (joined xss)
+ends : (xss : List (List ℕ)) → AllByRecursion AreBytes xss → AreBytes (joined xss)
 ends [] p = tt
 ends (xs ∷ xss) p = both xs (joined xss) p.0 (ends xss p.1)
 
@@ -80,12 +80,12 @@ branch_bytes (list true w) os = column_bytes os _ _ (numbers_bytes (width w) (st
 branch_bytes (fixed n) os = column_bytes os [] [] tt tt
 branch_bytes Branch.map os = column_bytes os _ [] (numbers_bytes 4 (running 0 (sizes os))) tt
 
-filled_bytes : (d : List ℕ) → AreBytes d → (os : List (Option (List ℕ))) → All (Present AreBytes) os → AreBytes (joined (map (or_else d) os))
+filled_bytes : (d : List ℕ) → AreBytes d → (os : List (Option (List ℕ))) → AllByRecursion (Present AreBytes) os → AreBytes (joined (map (or_else d) os))
 filled_bytes d p [] h = tt
 filled_bytes d p (none ∷ os) h = both d (joined (map (or_else d) os)) p (filled_bytes d p os h.1)
 filled_bytes d p (some bs ∷ os) h = both bs (joined (map (or_else d) os)) h.0 (filled_bytes d p os h.1)
 
-leaf_bytes : (l : Layout) (w : ℕ) (os : List (Option (List ℕ))) → All (Present AreBytes) os → ByteColumn (leaf_column l w os)
+leaf_bytes : (l : Layout) (w : ℕ) (os : List (Option (List ℕ))) → AllByRecursion (Present AreBytes) os → ByteColumn (leaf_column l w os)
 leaf_bytes None w os h = record { validity = tt; offsets = tt; bytes = tt }
 leaf_bytes Bit w os h = column_bytes os [] _ tt (packed_bytes (map (λ o. eqb (get_or (or_else [] o) 0 0) 1) os))
 leaf_bytes Text w os h = column_bytes os _ _ (numbers_bytes w (running 0 (sizes os))) (filled_bytes [] tt os h)
@@ -101,7 +101,7 @@ module _ (st : Setup) (gives : GivesBytes st.custom) where
   hidden-item_bytes (c ⊕ cs) = (hidden_bytes c, hidden-item_bytes cs)
 
   mutual
-    columns_bytes : (c : Node) (os : List (Value c)) → All (Bytewise c) os → All ByteColumn (columns st c os)
+    columns_bytes : (c : Node) (os : List (Value c)) → AllByRecursion (Bytewise c) os → AllByRecursion ByteColumn (columns st c os)
     columns_bytes (branch f b cs) os h = (
       branch_bytes b os,
       items_bytes cs (joined (map (taken b (hidden_item st cs)) os))
@@ -109,7 +109,7 @@ module _ (st : Setup) (gives : GivesBytes st.custom) where
     )
     columns_bytes (leaf f k) os h = (leaf_bytes (meaning st k).layout (text_width k) os h, tt)
 
-    items_bytes : (cs : Fields) (is : List (Item cs)) → All (BytewiseItem cs) is → All ByteColumn (columns_in st cs is)
+    items_bytes : (cs : Fields) (is : List (Item cs)) → AllByRecursion (BytewiseItem cs) is → AllByRecursion ByteColumn (columns_in st cs is)
     items_bytes Fields.none is h = tt
     items_bytes (c ⊕ cs) is h =
         All-append ByteColumn (columns st c (map (λ i. i.0) is)) (columns_in st cs (map (λ i. i.1) is))
@@ -138,7 +138,7 @@ records_bytes top (c ∷ cs) = both (record_of top c) (records (top + size_of c)
 pad_bytes : (bs : List ℕ) → AreBytes bs → AreBytes (pad bs)
 pad_bytes bs h = both bs (replicate (padded (length bs) - length bs) 0) h (zeros (padded (length bs) - length bs))
 
-buffers_bytes : (cs : List Column) → All ByteColumn cs → AreBytes (buffers cs)
+buffers_bytes : (cs : List Column) → AllByRecursion ByteColumn cs → AreBytes (buffers cs)
 buffers_bytes [] h = tt
 buffers_bytes (c ∷ cs) h =
     both (pad c.validity) (pad c.offsets ++ (pad c.bytes ++ buffers cs)) (pad_bytes c.validity h.0.validity)

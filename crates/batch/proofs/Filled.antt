@@ -2,7 +2,7 @@
 use Rattle.std.proofs.Common.{◌≡◌, ℕ, ◌+◌, ◌-◌, ◌^◌, ◌<◌, ◌≤◌, Bool, true, false, not, ◌&&◌, ◌||◌, List, [], ◌∷◌, ◌++◌, map, length, get_or, drop, sym, refl, ap, ◌∙◌, subst, arith, length-drop, length-take, get_or-drop, get_or-take}
 use mathlib.Core.Option.{Option, none, some}
 use lib.ListN.{length-map}
-use Rattle.std.specs.List.{AllByRecursion as All}
+use Rattle.std.specs.List.{AllByRecursion}
 use Rattle.std.proofs.lemmas.List.{get_or-map}
 use Rattle.std.proofs.ByRecursion.{All-map, All-weaker, All-get_or}
 use Rattle.std.proofs.lemmas.Bool.{both_ways, and_parts, or_parts}
@@ -34,7 +34,7 @@ not_null : (c : Node) (v : Value c) → not (is_null c (got v)) ≡ true → the
 not_null (branch f b cs) v e = not_not (is_some v) e
 not_null (leaf f k) v e = not_not (is_some v) e
 
-pub all_by : {A B : Type 0} (P : B → Type 0) (w : A → B) (test : A → Bool) → ((x : A) → test x ≡ true → P (w x)) → (xs : List A) → all test xs ≡ true → All P (map w xs)
+pub all_by : {A B : Type 0} (P : B → Type 0) (w : A → B) (test : A → Bool) → ((x : A) → test x ≡ true → P (w x)) → (xs : List A) → all test xs ≡ true → AllByRecursion P (map w xs)
 all_by P w test h [] e = tt
 all_by P w test h (x ∷ xs) e = let both = and_parts (test x) (all test xs) e in (h x both.0, all_by P w test h xs both.1)
 
@@ -69,7 +69,7 @@ module _ (st : Setup) where
           go : (w : List ℕ → Item cs) → ((ps : List ℕ) → (fit_item st t cs (below b force) ps && filled st t cs (below b force) ps) ≡ true → Unbare st cs (w ps))
               → ((ps : List ℕ) → fit_item st t cs (below b force) ps ≡ true → FullIn st cs (w ps)) → (row : Got (Option (List (List ℕ))))
               → (is_got row && (all (fit_item st t cs (below b force)) (taken b (zeros cs) (accepted row)) && all (filled st t cs (below b force)) (or_else [] (accepted row)))) ≡ true
-              → Present (λ is. All (Unbare st cs) is × All (FullIn st cs) is) (via (map w) (accepted row))
+              → Present (λ is. AllByRecursion (Unbare st cs) is × AllByRecursion (FullIn st cs) is) (via (map w) (accepted row))
           go w u f (refuse r) e = tt
           go w u f (got none) e = tt
           go w u f (got (some is)) e = (
@@ -103,7 +103,7 @@ is_some_lem none e = absurd (both_ways false refl e)
 is_some_lem (some x) e = (x, refl)
 
 -- an item of a slot that is valid
-item_of : {A : Type 0} (P : A → Type 0) (b : Branch) (c : Column) (es : List A) (j : ℕ) (o : Option (List A)) → SlotIs b c es j o → is_valid c j ≡ true → ((x : List A) → o ≡ some x → All P x)
+item_of : {A : Type 0} (P : A → Type 0) (b : Branch) (c : Column) (es : List A) (j : ℕ) (o : Option (List A)) → SlotIs b c es j o → is_valid c j ≡ true → ((x : List A) → o ≡ some x → AllByRecursion P x)
     → (k : ℕ) → (span b c j).0 ≤ k → k < (span b c j).0 + (span b c j).1 → (k < length es) × ((d : A) → P (get_or es k d))
 item_of P b c es j o s v all_of k lo hi =
     let it = is_some_lem o (sym s.valid ∙ v) in
@@ -145,7 +145,7 @@ module _ (st : Setup) (well : WellFormed st.root) (bytes : List ℕ) (short : le
       )
 
   mutual
-    pub filled_is : (c : Node) (i : ℕ) (more : List Node) → drop i (nodes st.root) ≡ nodes c ++ more → (os : List (Value c)) → All (Sized st c) os → All (Full st c) os
+    pub filled_is : (c : Node) (i : ℕ) (more : List Node) → drop i (nodes st.root) ≡ nodes c ++ more → (os : List (Value c)) → AllByRecursion (Sized st c) os → AllByRecursion (Full st c) os
         → AllStored bytes i (columns st c os) → Filled st (column_in bytes) c
     filled_is (branch f b cs) i more e os z u s =
         let c = stands st.root well (branch f b cs) i (nodes_in cs ++ more) e in
@@ -155,16 +155,16 @@ module _ (st : Setup) (well : WellFormed st.root) (bytes : List ℕ) (short : le
           subst (λ own. (j k : ℕ) → j < own.slots → is_valid own j ≡ true → (span b own j).0 ≤ k → k < (span b own j).0 + (span b own j).1 → FilledAt st (column_in bytes) cs k) col-is
               (λ j k h v lo hi.
               let l : j < length os = rw (branch_slots b os).0 at h in
-              let slot = slot_is (hidden_item st cs) os b (All (SizedItem st cs)) z few j none l in
+              let slot = slot_is (hidden_item st cs) os b (AllByRecursion (SizedItem st cs)) z few j none l in
               let it = item_of (Unbare st cs) b (branch_column b os) is j (get_or os j none) slot v
-              (λ x e. (subst (Present (λ is. All (Unbare st cs) is × All (FullIn st cs) is)) e (All-get_or (Full st (branch f b cs)) os j none l u)).0) k lo hi in
+              (λ x e. (subst (Present (λ is. AllByRecursion (Unbare st cs) is × AllByRecursion (FullIn st cs) is)) e (All-get_or (Full st (branch f b cs)) os j none l u)).0) k lo hi in
               filled_at cs (i + 1) more c.next is s.1 k (hidden_item st cs) it.0 (it.1 (hidden_item st cs))),
           filled_in cs (i + 1) more c.next is (all-taken b (SizedItem st cs) (Counted b) (hidden_item st cs) (hidden_sized_item st cs) os z)
-              (all-taken b (FullIn st cs) (All (Unbare st cs)) (hidden_item st cs) (hidden_full_item st cs) os u) s.1,
+              (all-taken b (FullIn st cs) (AllByRecursion (Unbare st cs)) (hidden_item st cs) (hidden_full_item st cs) os u) s.1,
         )
     filled_is (leaf f k) i more e os z u s = tt
 
-    filled_in : (cs : Fields) (i : ℕ) (more : List Node) → drop i (nodes st.root) ≡ nodes_in cs ++ more → (is : List (Item cs)) → All (SizedItem st cs) is → All (FullIn st cs) is
+    filled_in : (cs : Fields) (i : ℕ) (more : List Node) → drop i (nodes st.root) ≡ nodes_in cs ++ more → (is : List (Item cs)) → AllByRecursion (SizedItem st cs) is → AllByRecursion (FullIn st cs) is
         → AllStored bytes i (columns_in st cs is) → FilledIn st (column_in bytes) cs
     filled_in Fields.none i more e is z u s = tt
     filled_in (c ⊕ cs) i more e is z u s =

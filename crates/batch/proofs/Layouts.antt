@@ -3,7 +3,7 @@ use Rattle.std.proofs.Common.{◌≡◌, ℕ, zero, suc, ◌+◌, ◌-◌, ◌*�
 use mathlib.Core.Option.{Option, none, some}
 use lib.ListN.{length-map, length-replicate}
 use lib.Seq.{take-length}
-use Rattle.std.specs.List.{AllByRecursion as All}
+use Rattle.std.specs.List.{AllByRecursion}
 use Rattle.std.proofs.lemmas.List.{get_or-map}
 use Rattle.std.proofs.ByRecursion.{All-map, All-weaker}
 use Rattle.std.proofs.lemmas.Bool.{both_ways}
@@ -92,7 +92,7 @@ module _ {A : Type 0} (os : List (Option (List A))) where
     empty = λ j h e. size_in os w small j h ∙ no_size (numbers w (starts 0 (sizes os))) (numbers w (sizes os)) j h e;
   }
 
-  even_long : (n : ℕ) (a : A) (P : List A → Type 0) → All (Present (λ is. (length is ≡ n) × P is)) os → length (joined (map (or_else (replicate n a)) os)) ≡ n * length os
+  even_long : (n : ℕ) (a : A) (P : List A → Type 0) → AllByRecursion (Present (λ is. (length is ≡ n) × P is)) os → length (joined (map (or_else (replicate n a)) os)) ≡ n * length os
   even_long n a P z = length_even n (map (or_else (replicate n a)) os) (even_filled n (replicate n a) P os (length-replicate n a) z) ∙ ap (λ m. n * m) (length-map os (or_else (replicate n a)))
 
 -- a struct of n slots without nulls
@@ -103,7 +103,7 @@ zero_sum from (suc n) = omega (arith, zero_sum (from + 1) n)
 full_marked : (n : ℕ) → Marked (record { slots = n; nulls = 0; validity = []; offsets = []; bytes = [] })
 full_marked n = record { counted = sym (zero_sum 0 n); bits = refl; spare = λ j h l. absurd (omega arith) }
 
-branch_laid : {A : Type 0} (hidden : A) (os : List (Option (List A))) (b : Branch) (P : List A → Type 0) → All (Present (λ is. Counted b is × P is)) os
+branch_laid : {A : Type 0} (hidden : A) (os : List (Option (List A))) (b : Branch) (P : List A → Type 0) → AllByRecursion (Present (λ is. Counted b is × P is)) os
     → Spanned b (length (joined (map (taken b hidden) os))) → Marked (branch_column b os) × BranchLaid b (branch_column b os) (length (joined (map (taken b hidden) os)))
 branch_laid hidden os struct P z few = (marked os [] [], (refl, refl, even_long os 1 hidden P z ∙ omega arith))
 branch_laid hidden os (list false w) P z few = (marked os _ [], (cuts os (width w) [] (omega (arith, wide_enough w)) (omega (arith, wide_half w)), refl))
@@ -113,7 +113,7 @@ branch_laid hidden os Branch.map P z few =
     let c = cuts os 4 [] (omega arith) (omega arith) in
     (marked os _ [], (c, refl, full_marked (offset 4 (branch_column Branch.map os) (length os)), sym c.last))
 
-leaf_laid : (os : List (Option (List ℕ))) (l : Layout) (kind : LeafKind) → All (Fits l) os → length (leaf_column l (text_width kind) os).bytes < 2 ^ 31
+leaf_laid : (os : List (Option (List ℕ))) (l : Layout) (kind : LeafKind) → AllByRecursion (Fits l) os → length (leaf_column l (text_width kind) os).bytes < 2 ^ 31
     → LeafLaid l (text_width kind) (leaf_column l (text_width kind) os)
 leaf_laid os None kind z short = (refl, refl, refl, refl)
 leaf_laid os Bit kind z short =
@@ -139,13 +139,13 @@ module _ (st : Setup) (well : WellFormed st.root) (all : List ℕ) (short : leng
   number_of (leaf f k) i more e = (stands st.root well (leaf f k) i more e).number
 
   mutual
-    pub laid : (c : Node) (i : ℕ) (more : List Node) → drop i (nodes st.root) ≡ nodes c ++ more → (os : List (Value c)) → All (Sized st c) os → AllStored all i (columns st c os)
+    pub laid : (c : Node) (i : ℕ) (more : List Node) → drop i (nodes st.root) ≡ nodes c ++ more → (os : List (Value c)) → AllByRecursion (Sized st c) os → AllStored all i (columns st c os)
         → Laid st (column_in all) c
     laid (branch f b cs) i more e os z s =
         let c = stands st.root well (branch f b cs) i (nodes_in cs ++ more) e in
         let is = joined (map (taken b (hidden_item st cs)) os) in
         let few = few_items st all f b cs is (i + 1) c.childed s.1 in
-        let r = branch_laid (hidden_item st cs) os b (All (SizedItem st cs)) z few in
+        let r = branch_laid (hidden_item st cs) os b (AllByRecursion (SizedItem st cs)) z few in
         let col-is : branch_column b os ≡ column_in all f.number = sym (ap (column_in all) c.number ∙ s.0.is) in (
           subst Marked col-is r.0,
           (
@@ -161,7 +161,7 @@ module _ (st : Setup) (well : WellFormed st.root) (all : List ℕ) (short : leng
         omega (arith, ap (λ c. length c.bytes) s.0.is, length-take (word_in all i 7) (drop (word_in all i 6) all), length-drop (word_in all i 6) all) in
         subst (LeafLaid (meaning st k).layout (text_width k)) (sym (ap (column_in all) c.number ∙ s.0.is)) (leaf_laid os (meaning st k).layout k z small)
 
-    laid_in : (cs : Fields) (i : ℕ) (more : List Node) → drop i (nodes st.root) ≡ nodes_in cs ++ more → (is : List (Item cs)) → All (SizedItem st cs) is → AllStored all i (columns_in st cs is)
+    laid_in : (cs : Fields) (i : ℕ) (more : List Node) → drop i (nodes st.root) ≡ nodes_in cs ++ more → (is : List (Item cs)) → AllByRecursion (SizedItem st cs) is → AllStored all i (columns_in st cs is)
         → (n : ℕ) → length is ≡ n → LaidIn st (column_in all) cs n
     laid_in Fields.none i more e is z s n l = tt
     laid_in (c ⊕ cs) i more e is z s n l =

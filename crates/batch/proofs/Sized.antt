@@ -2,7 +2,7 @@
 use Rattle.std.proofs.Common.{◌≡◌, ℕ, Bool, true, false, cond, ◌&&◌, ◌||◌, eqb, List, [], ◌∷◌, map, length, refl, ◌∙◌}
 use mathlib.Core.Option.{Option, none, some}
 use lib.ListN.{length-map}
-use Rattle.std.specs.List.{AllByRecursion as All}
+use Rattle.std.specs.List.{AllByRecursion}
 use Rattle.std.proofs.lemmas.Bool.{eqb-true}
 use Rattle.octets.specs.Lists.{via, rest, first}
 use Rattle.schema.specs.Tree.{Node, Fields, Field, Branch, LeafKind, branch, leaf, struct, list, fixed, ◌⊕◌, field_of}
@@ -18,7 +18,7 @@ use Rattle.batch.specs.Values.{Setup, Item, meaning, kept, leaf_at, below}
 use Rattle.batch.proofs.Worth.{worth, worth_item}
 use Rattle.batch.specs.Batch.{hidden, hidden_item}
 
-pub all_mapped : {A B : Type 0} (P : B → Type 0) (g : A → B) → ((x : A) → P (g x)) → (xs : List A) → All P (map g xs)
+pub all_mapped : {A B : Type 0} (P : B → Type 0) (g : A → B) → ((x : A) → P (g x)) → (xs : List A) → AllByRecursion P (map g xs)
 all_mapped P g h [] = tt
 all_mapped P g h (x ∷ xs) = (h x, all_mapped P g h xs)
 
@@ -85,7 +85,7 @@ module _ (st : Setup) where
           rows b cs (worth_item st t cs (below b force)) (sized_item cs (below b force)) (accepted (row_at st.settings t f b cs force p)) (row-counted f b cs force p)
         where
           rows : (b : Branch) (cs : Fields) (g : List ℕ → Item cs) → ((ps : List ℕ) → SizedItem st cs (g ps)) → (o : Option (List (List ℕ))) → Present (Counted b) o
-              → Present (λ is. Counted b is × All (SizedItem st cs) is) (via (map g) o)
+              → Present (λ is. Counted b is × AllByRecursion (SizedItem st cs) is) (via (map g) o)
           rows b cs g h none n = tt
           rows b cs g h (some is) n = (counted-map g b is n, all_mapped (SizedItem st cs) g h is)
       sized_value (leaf f k) force p = rw (leaf_value f k p) (pile-shown st k (element_at t p))

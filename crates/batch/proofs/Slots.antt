@@ -4,7 +4,7 @@ use mathlib.Core.List.{map-map}
 use mathlib.Core.Option.{Option, none, some}
 use lib.Dec.{eqb-suc-zero}
 use lib.ListN.{length-map, length-replicate}
-use Rattle.std.specs.List.{AllByRecursion as All}
+use Rattle.std.specs.List.{AllByRecursion}
 use Rattle.std.proofs.lemmas.List.{get_or-map}
 use Rattle.std.proofs.ByRecursion.{All-get_or}
 use Rattle.std.proofs.lemmas.Bool.{both_ways, eqb-true, ltb-true}
@@ -71,13 +71,13 @@ module _ {A : Type 0} (os : List (Option (List A))) where
     size_in k h = number_in_lem w (sizes os) k (rw length-sizes h) (omega (arith, span_in k h))
 
 -- slots of one size
-pub even_filled : {A : Type 0} (n : ℕ) (a : List A) (P : List A → Type 0) (os : List (Option (List A))) → length a ≡ n → All (Present (λ xs. (length xs ≡ n) × P xs)) os
-    → All (λ xs. length xs ≡ n) (map (or_else a) os)
+pub even_filled : {A : Type 0} (n : ℕ) (a : List A) (P : List A → Type 0) (os : List (Option (List A))) → length a ≡ n → AllByRecursion (Present (λ xs. (length xs ≡ n) × P xs)) os
+    → AllByRecursion (λ xs. length xs ≡ n) (map (or_else a) os)
 even_filled n a P [] e h = tt
 even_filled n a P (none ∷ os) e h = (e, even_filled n a P os e h.1)
 even_filled n a P (some xs ∷ os) e h = (h.0.0, even_filled n a P os e h.1)
 
-module _ {A : Type 0} (n : ℕ) (a : List A) (os : List (Option (List A))) (even : All (λ xs. length xs ≡ n) (map (or_else a) os)) where
+module _ {A : Type 0} (n : ℕ) (a : List A) (os : List (Option (List A))) (even : AllByRecursion (λ xs. length xs ≡ n) (map (or_else a) os)) where
   even_in : (k : ℕ) → k < length os → n * k + n ≤ length (joined (map (or_else a) os))
   even_in k h = rw (length_even n (map (or_else a) os) even, length-map os (or_else a), ← mul-suc n k) (mul-le-mul_left n h)
 
@@ -135,11 +135,11 @@ module _ {A : Type 0} (os : List (Option (List A))) where
       rw (extent_in os w small k h, offset_in os w small k (omega arith)) (span_in os k h, span-at os k d h ∙ or_else_some [] (get_or os k d) x e)
 
 module _ {A : Type 0} (hidden : A) (os : List (Option (List A))) where
-  pub slot_is : (b : Branch) (P : List A → Type 0) → All (Present (λ is. Counted b is × P is)) os → Spanned b (length (joined (map (taken b hidden) os)))
+  pub slot_is : (b : Branch) (P : List A → Type 0) → AllByRecursion (Present (λ is. Counted b is × P is)) os → Spanned b (length (joined (map (taken b hidden) os)))
       → (k : ℕ) (d : Option (List A)) → k < length os → SlotIs b (branch_column b os) (joined (map (taken b hidden) os)) k (get_or os k d)
   slot_is struct P z few k d h =
       let a = replicate 1 hidden in
-      let even : All (λ xs. length xs ≡ 1) (map (or_else a) os) = even_filled 1 a P os refl z in
+      let even : AllByRecursion (λ xs. length xs ≡ 1) (map (or_else a) os) = even_filled 1 a P os refl z in
       let one : 1 * k ≡ k = omega arith in
       record { valid = valid_is os [] [] k d h; items = λ x e. (rw one at (even_in 1 a os even k h), rw one at (even_part 1 a os even k d h) ∙ or_else_some a (get_or os k d) x e) }
   slot_is (list false w) P z few k d h =
@@ -152,7 +152,7 @@ module _ {A : Type 0} (hidden : A) (os : List (Option (List A))) where
       }
   slot_is (fixed n) P z few k d h =
       let a = replicate n hidden in
-      let even : All (λ xs. length xs ≡ n) (map (or_else a) os) = even_filled n a P os (length-replicate n hidden) z in
+      let even : AllByRecursion (λ xs. length xs ≡ n) (map (or_else a) os) = even_filled n a P os (length-replicate n hidden) z in
       record { valid = valid_is os [] [] k d h; items = λ x e. (even_in n a os even k h, even_part n a os even k d h ∙ or_else_some a (get_or os k d) x e) }
   slot_is Branch.map P z few k d h =
       record { valid = valid_is os (numbers 4 (running 0 (sizes os))) [] k d h; items = λ x e. spanned os 4 (omega arith) [] k d h x e }
@@ -172,7 +172,7 @@ bit_back (b ∷ []) f = go b (ltb-true b 2 f)
     go (suc (suc b)) h = absurd (omega arith)
 bit_back (b ∷ (c ∷ bs)) f = absurd (both_ways false refl f)
 
-pub eight_fits : (os : List (Option (List ℕ))) → All (Fits Eight) os → All (λ xs. length xs ≡ 8) (map (or_else (replicate 8 0)) os)
+pub eight_fits : (os : List (Option (List ℕ))) → AllByRecursion (Fits Eight) os → AllByRecursion (λ xs. length xs ≡ 8) (map (or_else (replicate 8 0)) os)
 eight_fits [] a = tt
 eight_fits (none ∷ os) a = (refl, eight_fits os a.1)
 eight_fits (some x ∷ os) a = (eqb-true (length x) 8 a.0, eight_fits os a.1)
@@ -189,7 +189,7 @@ module _ (os : List (Option (List ℕ))) where
   none_is none f = refl
   none_is (some x) f = absurd (both_ways false refl f)
 
-  pub leaf_is : (l : Layout) (kind : LeafKind) → All (Fits l) os → length (leaf_column l (text_width kind) os).bytes < 2 ^ 31 → (k : ℕ) (d : Option (List ℕ)) → k < length os
+  pub leaf_is : (l : Layout) (kind : LeafKind) → AllByRecursion (Fits l) os → length (leaf_column l (text_width kind) os).bytes < 2 ^ 31 → (k : ℕ) (d : Option (List ℕ)) → k < length os
       → leaf_in l (text_width kind) (leaf_column l (text_width kind) os) k ≡ get_or os k d
   leaf_is None kind fits short k d h = none_is (get_or os k d) (All-get_or (Fits None) os k d h fits)
   leaf_is Bit kind fits short k d h =
@@ -210,7 +210,7 @@ module _ (os : List (Option (List ℕ))) where
       by_valid (is_valid (column os [] bytes) k) (part bytes (8 * k) 8) (get_or os k d) (valid_is os [] bytes k d h)
       (λ x e. even_part 8 zeros os (eight_fits os fits) k d h ∙ or_else_some zeros (get_or os k d) x e)
 
-  pub leaf_in_lem : (l : Layout) (kind : LeafKind) → All (Fits l) os → length (leaf_column l (text_width kind) os).bytes < 2 ^ 31 → (k : ℕ) → k < length os
+  pub leaf_in_lem : (l : Layout) (kind : LeafKind) → AllByRecursion (Fits l) os → length (leaf_column l (text_width kind) os).bytes < 2 ^ 31 → (k : ℕ) → k < length os
       → InData l (text_width kind) (leaf_column l (text_width kind) os) k
   leaf_in_lem None kind fits short k h = tt
   leaf_in_lem Bit kind fits short k h = tt

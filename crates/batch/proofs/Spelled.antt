@@ -3,7 +3,7 @@ use Rattle.std.proofs.Common.{◌≡◌, ℕ, zero, suc, ◌+◌, ◌*◌, ◌/�
 use mathlib.Core.Option.{Option, none, some}
 use lib.ListN.{get_or-eq_default}
 use Rattle.std.specs.Fmt.{signed_decimal, digits_onto, digit_glyph, digits}
-use Rattle.std.specs.List.{AllByRecursion as All}
+use Rattle.std.specs.List.{AllByRecursion}
 use Rattle.std.proofs.lemmas.Str.{IsUtf8-from_ascii}
 use Rattle.std.proofs.lemmas.Bool.{lt-ltb, cond-true, eqb-true, cases_lt}
 use Rattle.std.proofs.ByRecursion.{All-map, All-weaker, All-get_or}
@@ -64,7 +64,7 @@ signed_utf8 : (z : ℤ) → IsUtf8 (signed_decimal z)
 signed_utf8 (pos n) = IsUtf8-from_ascii (decimal n) (decimal_ascii n)
 signed_utf8 (negsuc n) = IsUtf8-from_ascii (signed_decimal (negsuc n)) (ascii_more 45 (decimal (suc n)) (omega arith) (decimal_ascii (suc n)))
 
-all_ascii : (bs : List ℕ) → All (λ b. b < 128) bs → IsAscii bs
+all_ascii : (bs : List ℕ) → AllByRecursion (λ b. b < 128) bs → IsAscii bs
 all_ascii [] p = ascii_none
 all_ascii (b ∷ bs) p = ascii_more b bs p.0 (all_ascii bs p.1)
 
@@ -168,7 +168,7 @@ module _ (st : Setup) where
       pub worded : (c : Node) (force : Bool) (p : ℕ) → Worded c (worth st t c force p)
       worded (branch f b cs) force p = rows (worth_item st t cs (below b force)) (worded_item cs (below b force)) (accepted (row_at st.settings t f b cs force p))
         where
-          rows : (g : List ℕ → Item cs) → ((ps : List ℕ) → WordedItem cs (g ps)) → (o : Option (List (List ℕ))) → Present (All (WordedItem cs)) (via (map g) o)
+          rows : (g : List ℕ → Item cs) → ((ps : List ℕ) → WordedItem cs (g ps)) → (o : Option (List (List ℕ))) → Present (AllByRecursion (WordedItem cs)) (via (map g) o)
           rows g h none = tt
           rows g h (some is) = all_mapped (WordedItem cs) g h is
       worded (leaf f k) force p = rw (leaf_value st t f k p) (leaf_lettered k (element_at t p) (element_told t u p))
@@ -183,7 +183,7 @@ tapes_worded st t u c force p v e = subst (Worded c) (sym (value_worth st t c fo
 -- the texts of a batch
 module _ (st : Setup) (well : WellFormed st.root) (all : List ℕ) (short : length all < 2 ^ 31) where
   mutual
-    spelled_is : (c : Node) (i : ℕ) (more : List Node) → drop i (nodes st.root) ≡ nodes c ++ more → (os : List (Value c)) → All (Sized st c) os → All (Worded c) os → AllStored all i (columns st c os)
+    spelled_is : (c : Node) (i : ℕ) (more : List Node) → drop i (nodes st.root) ≡ nodes c ++ more → (os : List (Value c)) → AllByRecursion (Sized st c) os → AllByRecursion (Worded c) os → AllStored all i (columns st c os)
         → Spelled st (column_in all) c
     spelled_is (branch f b cs) i more e os z w s =
         let c = stands st.root well (branch f b cs) i (nodes_in cs ++ more) e in
@@ -202,7 +202,7 @@ module _ (st : Setup) (well : WellFormed st.root) (all : List ℕ) (short : leng
         let v : leaf_in l (text_width k) (column_in all f.number) j ≡ get_or os j none = ap (λ c. leaf_in l (text_width k) c j) is ∙ leaf_is os l k z small j none g in
         subst (Lettered k) (sym v) (All-get_or (Lettered k) os j none g w)
 
-    spelled_in : (cs : Fields) (i : ℕ) (more : List Node) → drop i (nodes st.root) ≡ nodes_in cs ++ more → (is : List (Item cs)) → All (SizedItem st cs) is → All (WordedItem cs) is → AllStored all i (columns_in st cs is)
+    spelled_in : (cs : Fields) (i : ℕ) (more : List Node) → drop i (nodes st.root) ≡ nodes_in cs ++ more → (is : List (Item cs)) → AllByRecursion (SizedItem st cs) is → AllByRecursion (WordedItem cs) is → AllStored all i (columns_in st cs is)
         → SpelledIn st (column_in all) cs
     spelled_in Fields.none i more e is z w s = tt
     spelled_in (c ⊕ cs) i more e is z w s =

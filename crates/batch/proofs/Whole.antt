@@ -2,7 +2,7 @@
 use Rattle.std.proofs.Common.{◌≡◌, ℕ, zero, suc, ◌+◌, ◌*◌, ◌^◌, ◌<◌, ◌≤◌, Bool, true, false, cond, ltb, List, [], ◌∷◌, ◌++◌, map, length, get_or, take, drop, sym, refl, ap, ◌∙◌, zero-add, arith, drop-drop}
 use lib.ListN.{length-map}
 use lib.Seq.{take-length}
-use Rattle.std.specs.List.{AllByRecursion as All}
+use Rattle.std.specs.List.{AllByRecursion}
 use Rattle.std.proofs.lemmas.List.{append-nil, get_or-map}
 use Rattle.std.proofs.ByRecursion.{All-append}
 use Rattle.std.proofs.lemmas.Bool.{lt-ltb, le-ltb}
@@ -27,7 +27,7 @@ map-take f zero xs = refl
 map-take f (suc n) [] = refl
 map-take f (suc n) (x ∷ xs) = ap (λ r. f x ∷ r) (map-take f n xs)
 
-all_pair : {A : Type 0} (P Q : A → Type 0) (xs : List A) → All P xs → All Q xs → All (λ x. P x × Q x) xs
+all_pair : {A : Type 0} (P Q : A → Type 0) (xs : List A) → AllByRecursion P xs → AllByRecursion Q xs → AllByRecursion (λ x. P x × Q x) xs
 all_pair P Q [] p q = tt
 all_pair P Q (x ∷ xs) p q = ((p.0, q.0), all_pair P Q xs p.1 q.1)
 
@@ -37,11 +37,11 @@ Sparse c = c.nulls ≤ c.slots
 
 module _ (st : Setup) where
   mutual
-    sparse : (c : Node) (os : List (Value c)) → All Sparse (columns st c os)
+    sparse : (c : Node) (os : List (Value c)) → AllByRecursion Sparse (columns st c os)
     sparse (branch f b cs) os = let n = branch_slots b os in (omega (arith, n), sparse_in cs _)
     sparse (leaf f k) os = let n = leaf_slots (meaning st k).layout (text_width k) os in (omega (arith, n), tt)
 
-    sparse_in : (cs : Fields) (is : List (Item cs)) → All Sparse (columns_in st cs is)
+    sparse_in : (cs : Fields) (is : List (Item cs)) → AllByRecursion Sparse (columns_in st cs is)
     sparse_in Fields.none is = tt
     sparse_in (c ⊕ cs) is =
         All-append Sparse (columns st c (map (λ i. i.0) is)) (columns_in st cs (map (λ i. i.1) is)) (sparse c (map (λ i. i.0) is)) (sparse_in cs (map (λ i. i.1) is))

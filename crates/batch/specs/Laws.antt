@@ -1,6 +1,6 @@
 -- What holds of every batch, by its bytes.
 use Rattle.std.specs.Prelude.{◌≡◌, ℕ, ◌+◌, ◌*◌, ◌%◌, ◌^◌, ◌<◌, ◌≤◌, Bool, ◌↔◌, List, map, length}
-use Rattle.std.specs.List.{AllByRecursion as All}
+use Rattle.std.specs.List.{AllByRecursion}
 use Rattle.octets.specs.Lists.{part, between, sum}
 use Rattle.schema.specs.Tree.{Node, nodes, WellFormed}
 use Rattle.tape.specs.View.{TapeView}
@@ -15,8 +15,8 @@ use Rattle.batch.specs.Cells.{Cell, batch_cell, read}
 
 -- row values that a batch can hold: they suit the schema, every number of slots is a signed one of 32 bits, and there are at most 2^24 bytes
 pub record Holdable (st : Setup) (rows : List (Value st.root)) : Type 0 where
-  pub sized : All (Sized st st.root) rows
-  pub few : All (λ c. c.slots < 2 ^ 31) (columns st st.root rows)
+  pub sized : AllByRecursion (Sized st st.root) rows
+  pub few : AllByRecursion (λ c. c.slots < 2 ^ 31) (columns st st.root rows)
   pub short : length (bytes_of st rows) ≤ 2 ^ 24
 
 -- the rows that a batch's bytes mean, by the Format
@@ -46,13 +46,13 @@ BatchesInFormat = (st : Setup) → WellFormed st.root → (rows : List (Value st
 -- where no child is null that may not be, none is in the columns
 abbrev pub BatchesFilled : Type 0
 BatchesFilled =
-    (st : Setup) → WellFormed st.root → (rows : List (Value st.root)) → Holdable st rows → All (Full st st.root) rows
+    (st : Setup) → WellFormed st.root → (rows : List (Value st.root)) → Holdable st rows → AllByRecursion (Full st st.root) rows
     → Filled st (column_in (bytes_of st rows)) st.root
 
 -- where the texts of row values are UTF-8, they are so in the columns
 abbrev pub BatchesSpelled : Type 0
 BatchesSpelled =
-    (st : Setup) → WellFormed st.root → (rows : List (Value st.root)) → Holdable st rows → All (Worded st.root) rows
+    (st : Setup) → WellFormed st.root → (rows : List (Value st.root)) → Holdable st rows → AllByRecursion (Worded st.root) rows
     → Spelled st (column_in (bytes_of st rows)) st.root
 
 -- every text of an opened tape is UTF-8
@@ -83,4 +83,4 @@ WholeWords = (st : Setup) (rows : List (Value st.root)) → length (bytes_of st 
 
 -- where the leaves give bytes, so are all of the batch
 abbrev pub AllBytes : Type 0
-AllBytes = (st : Setup) → GivesBytes st.custom → (rows : List (Value st.root)) → All (Bytewise st.root) rows → AreBytes (bytes_of st rows)
+AllBytes = (st : Setup) → GivesBytes st.custom → (rows : List (Value st.root)) → AllByRecursion (Bytewise st.root) rows → AreBytes (bytes_of st rows)

@@ -1,7 +1,7 @@
 -- Row values that suit the nodes of a schema.
 use Rattle.std.specs.Prelude.{◌≡◌, ℕ, Bool, true, false, List, length, IsUtf8}
 use Rattle.std.proofs.Math.Option.{Option, none, some}
-use Rattle.std.specs.List.{AllByRecursion as All}
+use Rattle.std.specs.List.{AllByRecursion}
 use Rattle.octets.specs.Lists.{is_some}
 use Rattle.schema.specs.Tree.{Node, Fields, Branch, LeafKind, branch, leaf, struct, list, fixed, ◌⊕◌}
 use Rattle.leaf.specs.Bytes.{AreBytes}
@@ -35,7 +35,7 @@ Counted Branch.map is = Unit {0}
 -- both hold of a value and of all within it
 abbrev mutual
   pub Sized : (st : Setup) (c : Node) → Value c → Type 0
-  Sized st (branch f b cs) o = Present (λ is. Counted b is × All (SizedItem st cs) is) o
+  Sized st (branch f b cs) o = Present (λ is. Counted b is × AllByRecursion (SizedItem st cs) is) o
   Sized st (leaf f k) o = Fits (meaning st k).layout o
 
   pub SizedItem : (st : Setup) (cs : Fields) → Item cs → Type 0
@@ -55,7 +55,7 @@ Unbare st (c ⊕ cs) i = (may_be_null st c ≡ false → there c i.0 ≡ true) �
 -- nor is any further within
 abbrev mutual
   pub Full : (st : Setup) (c : Node) → Value c → Type 0
-  Full st (branch f b cs) o = Present (λ is. All (Unbare st cs) is × All (FullIn st cs) is) o
+  Full st (branch f b cs) o = Present (λ is. AllByRecursion (Unbare st cs) is × AllByRecursion (FullIn st cs) is) o
   Full st (leaf f k) o = Unit {0}
 
   pub FullIn : (st : Setup) (cs : Fields) → Item cs → Type 0
@@ -65,7 +65,7 @@ abbrev mutual
 -- what the texts of a value hold is UTF-8
 abbrev mutual
   pub Worded : (c : Node) → Value c → Type 0
-  Worded (branch f b cs) o = Present (λ is. All (WordedItem cs) is) o
+  Worded (branch f b cs) o = Present (λ is. AllByRecursion (WordedItem cs) is) o
   Worded (leaf f k) o = Lettered k o
 
   pub WordedItem : (cs : Fields) → Item cs → Type 0
@@ -75,7 +75,7 @@ abbrev mutual
 -- what the leaves of a value hold are bytes
 abbrev mutual
   pub Bytewise : (c : Node) → Value c → Type 0
-  Bytewise (branch f b cs) o = Present (λ is. All (BytewiseItem cs) is) o
+  Bytewise (branch f b cs) o = Present (λ is. AllByRecursion (BytewiseItem cs) is) o
   Bytewise (leaf f k) o = Present AreBytes o
 
   pub BytewiseItem : (cs : Fields) → Item cs → Type 0

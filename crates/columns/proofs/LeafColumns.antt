@@ -3,7 +3,7 @@ use Rattle.std.proofs.Common.{◌≡◌, ℕ, ◌+◌, ◌-◌, ◌*◌, ◌/◌
 use mathlib.Core.Option.{Option}
 use lib.ListN.{length-map, length-replicate}
 use borrow.Rule.Slice.PartMut.{put_mid, post_of}
-use Rattle.std.specs.List.{AllByRecursion as All}
+use Rattle.std.specs.List.{AllByRecursion}
 use Rattle.std.proofs.lemmas.List.{nil_from_length, take_at, drop_at, drop_all, drop-replicate, take_all, take-replicate, length-drop}
 use Rattle.std.proofs.lemmas.Bool.{eqb-true, ltb-false, le-ltb}
 use Rattle.slip.specs.Slips.{got, then, answer_of}
@@ -46,7 +46,7 @@ fit_eight l bs is h = let e : eqb (length bs) 8 ≡ true = rw (← is) at h in e
 pub whole_cells : (m : Meaning) (t : TapeView) → AllFit m → (ps : List ℕ) → Whole m.layout (cells m t ps)
 whole_cells m t fits ps = go m.layout (λ e bs. fits e bs) ps
   where
-    eights : ((e : Elem) (bs : List ℕ) → m.answer e ≡ value bs → fitting Eight bs ≡ true) → (ps : List ℕ) → All (λ o. length (or_else (replicate 8 0) o) ≡ 8) (cells m t ps)
+    eights : ((e : Elem) (bs : List ℕ) → m.answer e ≡ value bs → fitting Eight bs ≡ true) → (ps : List ℕ) → AllByRecursion (λ o. length (or_else (replicate 8 0) o) ≡ 8) (cells m t ps)
     eights f [] = tt
     eights f (p ∷ ps) = (wide_cell 8 (m.answer (element_at t p)) (λ bs e. fit_eight Eight bs refl (f (element_at t p) bs e)), eights f ps)
 
@@ -57,11 +57,11 @@ whole_cells m t fits ps = go m.layout (λ e bs. fits e bs) ps
     go Eight f ps = eights f ps
 
 -- sizes
-all_mapped : (os : List Cell) → All (λ o. length (or_else (replicate 8 0) o) ≡ 8) os → All (λ (xs : List ℕ). length xs ≡ 8) (map (or_else (replicate 8 0)) os)
+all_mapped : (os : List Cell) → AllByRecursion (λ o. length (or_else (replicate 8 0) o) ≡ 8) os → AllByRecursion (λ (xs : List ℕ). length xs ≡ 8) (map (or_else (replicate 8 0)) os)
 all_mapped [] h = tt
 all_mapped (o ∷ os) h = (h.0, all_mapped os h.1)
 
-eights_long : (os : List Cell) → All (λ o. length (or_else (replicate 8 0) o) ≡ 8) os → length (joined (map (or_else (replicate 8 0)) os)) ≡ 8 * length os
+eights_long : (os : List Cell) → AllByRecursion (λ o. length (or_else (replicate 8 0) o) ≡ 8) os → length (joined (map (or_else (replicate 8 0)) os)) ≡ 8 * length os
 eights_long os h = length_even 8 (map (or_else (replicate 8 0)) os) (all_mapped os h) ∙ ap (λ n. 8 * n) (length-map os (or_else (replicate 8 0)))
 
 offsets_long : (w : ℕ) (os : List Cell) → length (numbers w (running 0 (sizes os))) ≡ w * (length os + 1)

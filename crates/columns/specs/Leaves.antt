@@ -1,7 +1,7 @@
 -- The rows of a leaf, as its column is written.
 use Rattle.std.specs.Prelude.{◌≡◌, ℕ, ◌<◌, ◌≤◌, min, Bool, true, false, List, [], map, length, replicate, Result, MatchResult, ◌==◌, slice_index}
 use Rattle.std.proofs.Math.Option.{Option}
-use Rattle.std.specs.List.{AllByRecursion as All}
+use Rattle.std.specs.List.{AllByRecursion}
 use Rattle.slip.specs.declared.Fault.{Fault}
 use Rattle.slip.specs.Slips.{refuse, got, slip_of}
 use Rattle.octets.specs.Lists.{is_some, or_else, sum}
@@ -44,7 +44,7 @@ abbrev pub Whole : Layout → List (Option (List ℕ)) → Type 0
 Whole None os = Unit {0}
 Whole Bit os = Unit {0}
 Whole Text os = Unit {0}
-Whole Eight os = All (λ o. length (or_else (replicate 8 0) o) ≡ 8) os
+Whole Eight os = AllByRecursion (λ o. length (or_else (replicate 8 0) o) ≡ 8) os
 
 -- no row is refused, and the plan has the totals of the column; or the first refusal
 abbrev pub PlannedLeaf : Meaning → (width : ℕ) → TapeView → (node : ℕ) → List ℕ → Result Plan Fault → Type 0

@@ -2,7 +2,7 @@
 use Rattle.std.proofs.Common.{◌≡◌, ℕ, suc, ◌-◌, ◌*◌, ◌<◌, Bool, true, false, cond, eqb, List, [], ◌∷◌, ◌++◌, map, length, get_or, take, sym, refl, ap, ◌∙◌, ap₂, arith, length-take, get_or-take}
 use lib.Dec.{eqb-suc-zero}
 use lib.ListN.{length-map}
-use Rattle.std.specs.List.{AllByRecursion as All}
+use Rattle.std.specs.List.{AllByRecursion}
 use Rattle.std.proofs.lemmas.List.{get_or-map, map-append, get_or_append_left}
 use Rattle.octets.specs.Lists.{all}
 use Rattle.schema.specs.Tree.{field_of, nodes}
@@ -75,7 +75,7 @@ module _ (st : Setup) where
     sound : Sound st held
     tells : Tells past held
 
-  told-run : (past : Past) (held : Held st) (calls : List Call) → All FromOpened calls → Told-of past held → Told-of (history st held past calls) (run st held calls)
+  told-run : (past : Past) (held : Held st) (calls : List Call) → AllByRecursion FromOpened calls → Told-of past held → Told-of (history st held past calls) (run st held calls)
   told-run past held [] null w = w
   told-run past held (c ∷ cs) null w =
       told-run (later past c (answer st held c)) (after st held c) cs null.1
@@ -151,11 +151,11 @@ module _ (st : Setup) where
         let r = s.values k (omega (arith, rows_is i h)) in
         cc)
 
-fst_all : (xs ys : List Call) → All FromOpened (xs ++ ys) → All FromOpened xs
+fst_all : (xs ys : List Call) → AllByRecursion FromOpened (xs ++ ys) → AllByRecursion FromOpened xs
 fst_all [] ys h = tt
 fst_all (x ∷ xs) ys h = (h.0, fst_all xs ys h.1)
 
-told-all : (st : Setup) (done left : List Call) → All FromOpened (done ++ left) → Told-of st (history st [] [] done) (run st [] done)
+told-all : (st : Setup) (done left : List Call) → AllByRecursion FromOpened (done ++ left) → Told-of st (history st [] [] done) (run st [] done)
 told-all st done left null = told-run st [] [] done (fst_all done left null) (record { sound = record { kept = tt; inside = omega arith }; tells = refl })
 
 pub always_in_format_lem : AlwaysInFormat

@@ -2,7 +2,7 @@
 use Rattle.std.proofs.Common.{◌≡◌, ℕ, zero, suc, ◌+◌, ◌-◌, ◌*◌, ◌%◌, ◌^◌, ◌<◌, ◌≤◌, Bool, true, false, cond, ◌||◌, ltb, List, [], ◌∷◌, ◌++◌, map, length, get_or, drop, replicate, sym, refl, ap, ◌∙◌, ap₂, arith, length-append, drop_at}
 use lib.ListN.{length-replicate}
 use lib.Seq.{take-length}
-use Rattle.std.specs.List.{AllByRecursion as All}
+use Rattle.std.specs.List.{AllByRecursion}
 use Rattle.std.proofs.ByRecursion.{All-weaker, All-append, All-take, All-get_or}
 use Rattle.std.proofs.lemmas.Bool.{and_parts, ltb-true, ltb-false, lt-ltb}
 use Rattle.octets.specs.Lists.{joined, all}
@@ -35,15 +35,15 @@ use Rattle.laws.proofs.Pages.{used_push, used-take, lies, start, start_next, row
 module _ (st : Setup) where
   -- rows that a batch can hold
   pub record Kept (rows : List (Value st.root)) : Type 0 where
-    pub sized : All (Sized st st.root) rows
-    pub few : All (λ c. c.slots < 2 ^ 31) (columns st st.root rows)
-    pub full : All (Full st st.root) rows
-    pub worded : All (Worded st.root) rows
+    pub sized : AllByRecursion (Sized st st.root) rows
+    pub few : AllByRecursion (λ c. c.slots < 2 ^ 31) (columns st st.root rows)
+    pub full : AllByRecursion (Full st st.root) rows
+    pub worded : AllByRecursion (Worded st.root) rows
     pub within : length (bytes_of st rows) ≤ st.size
 
   record Added (held : Held st) (rows : List (Value st.root)) : Type 0 where
-    sized : All (Sized st st.root) rows
-    few : All (λ c. c.slots < 2 ^ 31) (columns st st.root rows)
+    sized : AllByRecursion (Sized st st.root) rows
+    few : AllByRecursion (λ c. c.slots < 2 ^ 31) (columns st st.root rows)
     fits : used st held + length (bytes_of st rows) ≤ st.size
 
   added_from : (held : Held st) (t : TapeView) (ps : List ℕ) (lent end : ℕ) → used st held ≤ st.size
@@ -80,10 +80,10 @@ module _ (st : Setup) where
 
   -- what holds of a shelf after any calls
   pub record Sound (held : Held st) : Type 0 where
-    pub kept : All Kept held
+    pub kept : AllByRecursion Kept held
     pub inside : used st held ≤ st.size
 
-  full_rows : (t : TapeView) (ps : List ℕ) → all (takes st t) ps ≡ true → All (Full st st.root) (worths st t ps)
+  full_rows : (t : TapeView) (ps : List ℕ) → all (takes st t) ps ≡ true → AllByRecursion (Full st st.root) (worths st t ps)
   full_rows t ps e =
       let force = (field_of st.root).nullable in
       all_by (Full st st.root) (worth st t st.root force) (takes st t)
@@ -104,11 +104,11 @@ module _ (st : Setup) where
       record { kept = All-take Kept (length held - 1) held s.kept; inside = omega (arith, s.inside, used-take st (length held - 1) held) }
   sound-after held Count null s = s
 
-  pub sound-run : (held : Held st) (calls : List Call) → All FromOpened calls → Sound held → Sound (run st held calls)
+  pub sound-run : (held : Held st) (calls : List Call) → AllByRecursion FromOpened calls → Sound held → Sound (run st held calls)
   sound-run held [] null s = s
   sound-run held (c ∷ cs) null s = sound-run (after st held c) cs null.1 (sound-after held c null.0 s)
 
-  pub sound-all : (calls : List Call) → All FromOpened calls → Sound (run st [] calls)
+  pub sound-all : (calls : List Call) → AllByRecursion FromOpened calls → Sound (run st [] calls)
   sound-all calls null = sound-run [] calls null (record { kept = tt; inside = omega arith })
 
   module _ (well : WellFormed st.root) (small : st.size ≤ 2 ^ 24) where

@@ -1,6 +1,6 @@
 -- The laws of every run, by what was asked and answered, and by the bytes of the page.
 use Rattle.std.specs.Prelude.{◌≡◌, ℕ, zero, suc, ◌+◌, ◌-◌, ◌*◌, ◌%◌, ◌^◌, ◌<◌, ◌≤◌, true, false, cond, ◌↔◌, List, [], ◌∷◌, ◌++◌, map, length, take, drop, replicate, ◌==◌, ◌≢◌, nat_lt, slice_index, slice_index_or}
-use Rattle.std.specs.List.{AllByRecursion as All}
+use Rattle.std.specs.List.{AllByRecursion}
 use Rattle.octets.specs.Lists.{part, between, sum}
 use Rattle.schema.specs.Tree.{field_of, nodes, WellFormed}
 use Rattle.tape.specs.Opens.{Untorn}
@@ -169,11 +169,11 @@ module _ (st : Setup) where
 -- the laws of every run: whatever the calls are, they hold when any of them, from none to all, are done
 abbrev pub AlwaysKept : Type 0
 AlwaysKept =
-    (st : Setup) → WellFormed st.root → st.size ≤ 2 ^ 24 → (done left : List Call) → All FromOpened (done ++ left)
+    (st : Setup) → WellFormed st.root → st.size ≤ 2 ^ 24 → (done left : List Call) → AllByRecursion FromOpened (done ++ left)
     → Kept st (seen st (run st [] done)) (history st [] [] done)
 
 -- and every batch that is held then is in the Format
 abbrev pub AlwaysInFormat : Type 0
 AlwaysInFormat =
-    (st : Setup) → WellFormed st.root → st.size ≤ 2 ^ 24 → (done left : List Call) → All FromOpened (done ++ left)
+    (st : Setup) → WellFormed st.root → st.size ≤ 2 ^ 24 → (done left : List Call) → AllByRecursion FromOpened (done ++ left)
     → let past = history st [] [] done in (i : ℕ) → i < length past → InFormat st (seen st (run st [] done)) past i

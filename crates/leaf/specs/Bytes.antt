@@ -1,12 +1,12 @@
 -- Where the texts of a tape are bytes, so are the values that a leaf makes of them.
 use Rattle.std.specs.Prelude.{ℕ, ◌<◌, List}
-use Rattle.std.specs.List.{AllByRecursion as All}
+use Rattle.std.specs.List.{AllByRecursion}
 use Rattle.tape.specs.View.{Elem, object, list, string, number, i64, i32, bool, null}
 use Rattle.leaf.specs.Meaning.{Answer, nothing, conflict, misfit, value, Meaning}
 
 -- numbers that a byte can hold
 abbrev pub AreBytes : List ℕ → Type 0
-AreBytes bs = All (λ b. b < 256) bs
+AreBytes bs = AllByRecursion (λ b. b < 256) bs
 
 -- the text of an element, if it has one, is bytes
 abbrev pub HoldsBytes : Elem → Type 0

@@ -2,7 +2,7 @@
 use Rattle.std.proofs.Common.{◌≡◌, ℕ, zero, suc, ◌+◌, ◌*◌, ◌/◌, ◌%◌, ◌^◌, ◌<◌, ◌≤◌, Bool, true, false, cond, List, [], ◌∷◌, map, length, get_or, drop, sym, refl, ap, ◌∙◌, mul_comm, pow-suc, arith, get_or-drop, get_or-take}
 use native.Mathlib.Nat.{zero-div, div-div-eq-div-mul}
 use lib.ListN.{length-map}
-use Rattle.std.specs.List.{AllByRecursion as All}
+use Rattle.std.specs.List.{AllByRecursion}
 use Rattle.std.proofs.lemmas.List.{get_or-map, get_or_past}
 use Rattle.octets.specs.Numbers.{NumbersBack, BitsBack, SpareBits, le, number, weighed, packed, bitmap_bit, numbers, number_in}
 use Rattle.octets.specs.Lists.{part, between}
@@ -40,7 +40,7 @@ bit_in bs k h = bit_any bs k (omega arith)
 pub spare_bits : SpareBits
 spare_bits bs k h l = bit_any bs k (omega (arith, length-packed bs)) ∙ ap (λ b. cond b 1 0) (get_or_past bs k false h)
 
-all-le : (w : ℕ) (ns : List ℕ) → All (λ xs. length xs ≡ w) (map (le w) ns)
+all-le : (w : ℕ) (ns : List ℕ) → AllByRecursion (λ xs. length xs ≡ w) (map (le w) ns)
 all-le w [] = tt
 all-le w (n ∷ ns) = (length-le w n, all-le w ns)
 

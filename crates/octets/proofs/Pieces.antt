@@ -3,7 +3,7 @@ use Rattle.std.proofs.Common.{◌≡◌, ℕ, zero, suc, ◌+◌, ◌-◌, ◌*�
 use native.Mathlib.Nat.{mod-add-div}
 use lib.ListN.{length-replicate}
 use lib.Seq.{drop-append-add, take-append_seam}
-use Rattle.std.specs.List.{AllByRecursion as All}
+use Rattle.std.specs.List.{AllByRecursion}
 use Rattle.std.proofs.lemmas.List.{drop-take}
 use Rattle.octets.specs.Numbers.{le, number, padded, pad}
 use Rattle.octets.specs.Lists.{part, joined, sum, between, running, starts}
@@ -37,11 +37,11 @@ pub take_own : {A : Type 0} (n : ℕ) (zs ys : List A) → take n zs ≡ ys → 
 take_own n zs ys e = rw (← e) (take_again n zs)
 
 -- lists of one length, joined
-pub length_even : {A : Type 0} (n : ℕ) (xss : List (List A)) → All (λ xs. length xs ≡ n) xss → length (joined xss) ≡ n * length xss
+pub length_even : {A : Type 0} (n : ℕ) (xss : List (List A)) → AllByRecursion (λ xs. length xs ≡ n) xss → length (joined xss) ≡ n * length xss
 length_even n [] h = sym (mul-zero n)
 length_even n (xs ∷ xss) h = length-append xs (joined xss) ∙ omega (arith, h.0, length_even n xss h.1, mul-suc n (length xss))
 
-pub even_at : {A : Type 0} (n : ℕ) (xss : List (List A)) (k : ℕ) (d : List A) → All (λ xs. length xs ≡ n) xss → k < length xss → part (joined xss) (n * k) n ≡ get_or xss k d
+pub even_at : {A : Type 0} (n : ℕ) (xss : List (List A)) (k : ℕ) (d : List A) → AllByRecursion (λ xs. length xs ≡ n) xss → k < length xss → part (joined xss) (n * k) n ≡ get_or xss k d
 even_at n [] k d a h = absurd (not-suc-le-zero h)
 even_at n (xs ∷ xss) zero d a h = rw mul-zero (take_at xs (joined xss) n a.0)
 even_at n (xs ∷ xss) (suc k) d a h =

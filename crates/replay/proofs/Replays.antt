@@ -1,6 +1,6 @@
 -- Calls, one after another.
 use Rattle.std.proofs.Common.{◌≡◌, ℕ, ◌+◌, ◌<◌, ◌≤◌, min, List, [], ◌∷◌, ◌++◌, map, length, take, drop, set, sym, refl, ap, ◌∙◌, subst, ap₂, inl, inr, arith, take_all, drop-drop, drop-set-lt}
-use Rattle.std.specs.List.{AllByRecursion as All}
+use Rattle.std.specs.List.{AllByRecursion}
 use Rattle.std.proofs.lemmas.List.{map-append, take_more_set}
 use Rattle.slip.specs.Slips.{Slip, Got, refuse, got, then, slip}
 use Rattle.schema.specs.Tree.{Node}
@@ -79,7 +79,7 @@ one_opened work (CellLine i n slot) c e = subst FromOpened (sym e) tt
 one_opened work ReleaseLine c e = subst FromOpened (sym e) tt
 one_opened work CountLine c e = subst FromOpened (sym e) tt
 
-pub all_opened : (work : ℕ) (ls : List Line) (cs : List Call) → AllAsk work ls cs → All FromOpened cs
+pub all_opened : (work : ℕ) (ls : List Line) (cs : List Call) → AllAsk work ls cs → AllByRecursion FromOpened cs
 all_opened work [] [] h = tt
 all_opened work [] (c ∷ cs) h = absurd h
 all_opened work (l ∷ ls) [] h = absurd h
@@ -178,8 +178,8 @@ module _ {X : Type 0} (m : X → Meaning) (s : Settings) (x : X) (rs ns : List �
           law = record {
             answered = ap (λ n. map said (take n answers)) (many ∙ sym exact) ∙ f.answered;
             page_is = f.holds.lies;
-            kept = λ done left e. always_kept_lem st well f.holds.small done left (subst (All FromOpened) (sym e) opened);
-            in_format = λ done left e. always_in_format_lem st well f.holds.small done left (subst (All FromOpened) (sym e) opened);
+            kept = λ done left e. always_kept_lem st well f.holds.small done left (subst (AllByRecursion FromOpened) (sym e) opened);
+            in_format = λ done left e. always_in_format_lem st well f.holds.small done left (subst (AllByRecursion FromOpened) (sym e) opened);
           };
         },
         ap (λ n. drop n answers) (sym exact) ∙ f.rest ∙ ap (λ n. drop n before) exact,

@@ -1,7 +1,7 @@
 -- The nodes of a tree that records hold.
 use Rattle.std.proofs.Common.{◌≡◌, ℕ, zero, suc, ◌+◌, ◌-◌, ◌<◌, ◌≤◌, Bool, true, false, eqb, List, ◌∷◌, ◌++◌, map as mapped, length, get_or, sym, refl, ap, ◌∙◌, subst, arith, length-append}
 use native.Mathlib.Decide.{dec_lt}
-use Rattle.std.specs.List.{AllByRecursion as All}
+use Rattle.std.specs.List.{AllByRecursion}
 use Rattle.std.proofs.lemmas.List.{map-append, get_or_append_left, get_or-append_right}
 use Rattle.std.proofs.ByRecursion.{All-append}
 use Rattle.octets.specs.Lists.{between}
@@ -103,10 +103,10 @@ mutual
       rw (map-append (λ x. (field_of x).number) (nodes c) (nodes_in cs), length-append (nodes c) (nodes_in cs), between_more i (length (nodes c)) (length (nodes_in cs)), numbered t, numbered_in ts)
 
 mutual
-  pub childed : {rs ns : List ℕ} {i : ℕ} {t : Node} → Held rs ns i t → All Childed (nodes t)
+  pub childed : {rs ns : List ℕ} {i : ℕ} {t : Node} → Held rs ns i t → AllByRecursion Childed (nodes t)
   childed (node {t = t} w a l cs) = rw (nodes_is t) (a, childed_in cs)
 
-  pub childed_in : {rs ns : List ℕ} {i : ℕ} {cs : Fields} → HeldIn rs ns i cs → All Childed (nodes_in cs)
+  pub childed_in : {rs ns : List ℕ} {i : ℕ} {cs : Fields} → HeldIn rs ns i cs → AllByRecursion Childed (nodes_in cs)
   childed_in nothing = tt
   childed_in (more {c = c} {cs = cs} t ts) = All-append Childed (nodes c) (nodes_in cs) (childed t) (childed_in ts)
 

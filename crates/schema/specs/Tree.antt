@@ -1,6 +1,6 @@
 -- A schema as the tree that its records hold.
 use Rattle.std.specs.Prelude.{◌≡◌, ℕ, suc, ◌+◌, max, Bool, List, [], ◌∷◌, ◌++◌, map as mapped, length, slice_index_or}
-use Rattle.std.specs.List.{AllByRecursion as All}
+use Rattle.std.specs.List.{AllByRecursion}
 use Rattle.octets.specs.Lists.{between}
 
 infixr 60 ◌⊕◌
@@ -84,5 +84,5 @@ Childed (leaf f k) = Unit {0}
 
 -- a schema's tree, with the nodes numbered from 0 in the order in which they stand
 pub record WellFormed (root : Node) : Type 0 where
-  pub childed : All Childed (nodes root)
+  pub childed : AllByRecursion Childed (nodes root)
   pub numbered : mapped (λ c. (field_of c).number) (nodes root) ≡ between 0 (length (nodes root))
