@@ -96,7 +96,10 @@ impl Leaf for Null {
         }
     }
 
-    fn write(&self, _e: Element, _out: &mut [u8]) {}
+    // No element has a value here, so that it may be called of any, and writes nothing.
+    fn write(&self, _e: Element, out: &mut [u8])
+        ensures { out.new ≡ out.old }
+    {}
 
     fn word(&self) -> &str {
         "null"
