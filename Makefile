@@ -8,8 +8,8 @@ DUMP := python3 tools/dump.py
 .PHONY: run test samples
 
 run:
-	@rt check report
-	@cd $(DATA) && ../../../target/bin/report $$(cat ../args)
+	@cd crates/report && rt run -- data/stars >/dev/null
+	@cd $(DATA) && ../out/report $$(cat ../args)
 
 test:
 	@./.ci/run

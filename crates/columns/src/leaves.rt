@@ -4,7 +4,7 @@ ghost use Rattle.std.proofs.Math.Option.{Option};
 ghost use Rattle.octets.specs.Lists.{is_some, sum};
 ghost use Rattle.octets.specs.Numbers.{packed, pad, padded};
 ghost use Rattle.tape.specs.Opens.{Opened, view_of};
-ghost use Rattle.batch.specs.Batch.{buffers, leaf_column, nulls as nullsOf, sizes};
+ghost use Rattle.batch.specs.Batch.{buffers, leaf_column, nulls as nulls_of, sizes};
 ghost use Rattle.columns.specs.Areas.{Place, Plans};
 ghost use Rattle.columns.specs.Entering.{AllFit, LeafEntered};
 ghost use Rattle.columns.specs.Leaves.{Positions, PlannedLeaf, Whole, cells};
@@ -36,7 +36,7 @@ fn marked(slots: usize, nulls: usize, offsets: usize, data_size: usize) -> Plan
 // What a column of so many slots takes, by what its rows were seen to have.
 fn sized<O: OffsetSize>(layout: Layout, slots: usize, seen: Seen) -> Plan
     requires { slots ≤ 2 ^ 24 }
-    ensures { (os : List (Option (List ℕ))) → length os ≡ slots → nullsOf os ≡ seen.nulls → seen.bytes ≡ min (sum (sizes os)) 18446744073709551615 → Whole layout os → Totals result (leaf_column layout O.OffsetSize.width os) }
+    ensures { (os : List (Option (List ℕ))) → length os ≡ slots → nulls_of os ≡ seen.nulls → seen.bytes ≡ min (sum (sizes os)) 18446744073709551615 → Whole layout os → Totals result (leaf_column layout O.OffsetSize.width os) }
 {
     match layout {
         Layout::None => Plan {

@@ -2,13 +2,13 @@
 //
 // `Spans::new` plans them for so many slots and nulls: its `plan` then tests the space (`Plan::end`) and writes the
 // record (`Plan::put_record`). `put_row` wants a slice of exactly the buffers' size, which begins as zeros
-// (`Begins.begun-none`), and each row in order; `close` comes after the last row.
+// (`Begins.begun_none`), and each row in order; `close` comes after the last row.
 // `Begun s out rows` says that these first rows are in `out`: `put_row` goes from some rows to one more, and `close`
 // from all rows to the buffers of the branch's column, which make the written column (`Places.column-written`).
 ghost use Rattle.std.specs.Prelude.{◌≡◌, ◌+◌, ◌/◌, ◌^◌, ◌<◌, ◌≤◌, ◌&&◌, List, [], ◌∷◌, ◌++◌, length, if◌then◌else◌, nat_lt};
 ghost use Rattle.octets.specs.Lists.{is_some};
 ghost use Rattle.octets.specs.Numbers.{with_bit};
-ghost use Rattle.batch.specs.Batch.{branch_column, buffers, nulls as nullsOf};
+ghost use Rattle.batch.specs.Batch.{branch_column, buffers, nulls as nulls_of};
 ghost use Rattle.columns.specs.Areas.{branch_of, Plans};
 ghost use Rattle.columns.specs.Plans.{bytes_of};
 ghost use Rattle.columns.specs.Spans.{Row, begun, Laid, Begun, Suits, Counted, Closes};
@@ -70,7 +70,7 @@ impl Spans {
         requires { slots ≤ 2 ^ 24 }
         ensures laid { Laid result }
         ensures same { (result.shape ≡ shape) × ((result.plan.slots ≡ slots) × (result.plan.nulls ≡ nulls)) }
-        ensures plans { (os : List Row) → length os ≡ slots → nullsOf os ≡ nulls → Plans result.plan (branch_column (branch_of shape) os) }
+        ensures plans { (os : List Row) → length os ≡ slots → nulls_of os ≡ nulls → Plans result.plan (branch_column (branch_of shape) os) }
     {
         let plan = Plan {
             slots,
@@ -121,7 +121,7 @@ impl Spans {
         requires suits { Suits O.OffsetSize.width (branch_of self.shape) }
         requires long { length out.old ≡ bytes_of self.plan }
         requires small { items < 2 ^ 31 }
-        ensures { (os : List Row) → Begun self out.old os → length os ≡ self.plan.slots → nullsOf os ≡ self.plan.nulls → Closes (branch_of self.shape) os items → out.new ≡ buffers (branch_column (branch_of self.shape) os ∷ []) }
+        ensures { (os : List Row) → Begun self out.old os → length os ≡ self.plan.slots → nulls_of os ≡ self.plan.nulls → Closes (branch_of self.shape) os items → out.new ≡ buffers (branch_column (branch_of self.shape) os ∷ []) }
     {
         match self.shape {
             Shape::ListOf { .. } | Shape::Map => {

@@ -34,7 +34,10 @@ impl Leaf for AlwaysNull {
         Reply::Null
     }
 
-    fn write(&self, _e: Element, _out: &mut [u8]) {}
+    // Nothing has a value here, so that it may be called of any element, and writes nothing.
+    fn write(&self, _e: Element, out: &mut [u8])
+        ensures { out.new ≡ out.old }
+    {}
 
     fn word(&self) -> &str {
         "nothing"

@@ -1,6 +1,6 @@
 // Few names are tried one by one, and more are looked up in a table.
 ghost use Rattle.std.specs.Prelude.{◌≡◌, ◌<◌};
-ghost use Rattle.schema.specs.Tree.{Node, children_of, names as namesIn};
+ghost use Rattle.schema.specs.Tree.{Node, children_of, names as names_in};
 ghost use Rattle.schema.specs.Layout.{the, letter_at};
 ghost use Rattle.schema.specs.Opened.{Opened, NodeOf, records_of, size_of};
 ghost use Rattle.names.specs.Lowest.{AlwaysLowest};
@@ -41,7 +41,7 @@ impl<'a> Index<'a> {
         requires kind { letter_at (records_of schema) node ≡ the "S" }
         ensures chosen { Chosen result }
         ensures ready { IndexReady result }
-        ensures names { (t : Node) → NodeOf schema.entry node t → index_names result ≡ namesIn (children_of t) }
+        ensures names { (t : Node) → NodeOf schema.entry node t → index_names result ≡ names_in (children_of t) }
         ensures lowest { AlwaysLowest }
     {
         Index::over(Scan::of(schema, node))

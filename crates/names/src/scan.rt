@@ -1,7 +1,7 @@
 // Names, tried one by one.
 ghost use Rattle.std.specs.Prelude.{◌≡◌, ℕ, ◌+◌, ◌<◌, ◌≤◌, [], map, length, Decides, slice_index_or};
 ghost use Rattle.octets.specs.Lists.{between};
-ghost use Rattle.schema.specs.Tree.{Node, children_of, names as namesIn};
+ghost use Rattle.schema.specs.Tree.{Node, children_of, names as names_in};
 ghost use Rattle.schema.specs.Layout.{the, record_count, letter_at, count_at, start_at, size_at, name_at};
 ghost use Rattle.schema.specs.Opened.{Opened, NodeOf, records_of, size_of};
 ghost use Rattle.names.specs.Scans.{scan_names, ScanReady};
@@ -26,7 +26,7 @@ impl<'a> Scan<'a> {
         requires kind { letter_at (records_of schema) node ≡ the "S" }
         ensures ready { ScanReady result }
         ensures count { result.count ≡ count_at (records_of schema.entry) node }
-        ensures names { (t : Node) → NodeOf schema.entry node t → scan_names result ≡ namesIn (children_of t) }
+        ensures names { (t : Node) → NodeOf schema.entry node t → scan_names result ≡ names_in (children_of t) }
     {
         let (records, names) = schema.bytes();
         let count = schema.count(node);

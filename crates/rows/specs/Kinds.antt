@@ -9,7 +9,7 @@ use Rattle.tape.specs.View.{is_at}
 use Rattle.schema.specs.Tree.{Field, Fields, Branch, LeafKind, leaf, ◌⊕◌}
 use Rattle.batch.specs.Rows.{row_at}
 use Rattle.batch.specs.Values.{taken, zeros}
-use Rattle.batch.specs.Batch.{nulls as nullsOf}
+use Rattle.batch.specs.Batch.{nulls as nulls_of}
 use Rattle.columns.specs.Areas.{branch_of}
 use Rattle.columns.specs.Plans.{bytes_of}
 use Rattle.columns.specs.Spans.{Suits, Laid}
@@ -56,7 +56,7 @@ row_size b cs o = record { null = not (is_some o); items = length (taken b (zero
 
 -- how many items some rows have in each child, and how many rows are null
 abbrev pub counts_of : Branch → Fields → List (Option (List (List ℕ))) → Counted
-counts_of b cs os = record { items = length (items_of b cs os); nulls = nullsOf os }
+counts_of b cs os = record { items = length (items_of b cs os); nulls = nulls_of os }
 
 -- spans that were made for these rows of a branch, and nothing of them is written yet
 pub record Suited (width : ℕ) (b : Branch) (s : Spans) (out : List ℕ) (os : List (Option (List (List ℕ)))) : Type 0 where
@@ -64,5 +64,5 @@ pub record Suited (width : ℕ) (b : Branch) (s : Spans) (out : List ℕ) (os : 
   pub suits : Suits width b
   pub laid : Laid s
   pub slots : length os ≡ s.plan.slots
-  pub nulls : nullsOf os ≡ s.plan.nulls
+  pub nulls : nulls_of os ≡ s.plan.nulls
   pub blank : out ≡ replicate (bytes_of s.plan) 0

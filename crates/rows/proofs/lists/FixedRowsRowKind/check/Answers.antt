@@ -39,7 +39,7 @@ returns-then-entry_count-self c =
     let cs = named ([] ∷ []) in
     let e : begins_at r true p ≡ got true = sym c.in_ok-begins.ensures ∙ ap got c.if-not-branch.false in
     record {
-      said = said_refused r (fixed count) cs p (slip 9 r.node p) (fixed_wrong r cs p count (begins_bracket r true p e) (λ n. c.if-entry_count-self.true (c.entry_count.ensures ∙ n)));
+      said = said_refused r (fixed count) cs p (slip 9 r.node p) (fixed_wrong r cs p count (begins_bracket r true p e) (λ n. omega (arith, n, c.entry_count.ensures, c.if-entry_count-self.true)));
       few = tt;
     }
 
