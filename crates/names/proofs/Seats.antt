@@ -68,10 +68,10 @@ found {all} {slots} {p} {n} {r} k e x l = go x.ends
     go (inr z) = (omega (arith, k.known r), z, λ j m q. k.lowest r l j (omega arith) (q ∙ sym z))
 
 -- a table with nothing in it
-get_d_zeros : (n s : ℕ) → get_or {A = ℕ} (replicate n 0) s 0 ≡ 0
-get_d_zeros zero s = refl
-get_d_zeros (suc n) zero = refl
-get_d_zeros (suc n) (suc s) = get_d_zeros n s
+get_or-zeros : (n s : ℕ) → get_or {A = ℕ} (replicate n 0) s 0 ≡ 0
+get_or-zeros zero s = refl
+get_or-zeros (suc n) zero = refl
+get_or-zeros (suc n) (suc s) = get_or-zeros n s
 
 used-zeros : (n : ℕ) → used (replicate n 0) ≡ 0
 used-zeros zero = refl
@@ -80,8 +80,8 @@ used-zeros (suc n) = used-zeros n
 pub keyed_none : (all : List (List ℕ)) → Keyed all (replicate 128 0) 0
 keyed_none all = record {
   long = refl;
-  known = λ s. omega (arith, get_d_zeros 128 s);
-  lowest = λ s l. absurd (omega (arith, get_d_zeros 128 s));
+  known = λ s. omega (arith, get_or-zeros 128 s);
+  lowest = λ s l. absurd (omega (arith, get_or-zeros 128 s));
   seated = λ q l. absurd (omega arith);
   few = omega (arith, used-zeros 128);
 }

@@ -39,5 +39,5 @@ module _ (bs : List ℕ) (i : ℕ) where
   pub le_at_four : le_at 4 bs i ≡ get_or bs i 0 + get_or bs (i + 1) 0 * 256 + get_or bs (i + 2) 0 * 65536 + get_or bs (i + 3) 0 * 16777216
   le_at_four = omega (arith, le_at_three 0)
 
-  pub le_at-eight : le_at 8 bs i ≡ le_at 4 bs i + le_at 4 bs (i + 4) * 4294967296
-  le_at-eight = omega (arith, le_at_three 4, le_at_four)
+  pub le_at_eight : le_at 8 bs i ≡ le_at 4 bs i + le_at 4 bs (i + 4) * 4294967296
+  le_at_eight = omega (arith, le_at_three 4, le_at_four)
