@@ -6,10 +6,12 @@ use lib.ListN.{length-map, length-replicate}
 use Rattle.std.proofs.lemmas.List.{map-append}
 use Rattle.std.proofs.lemmas.Bool.{eqb-true, not_from_true, not_from_false}
 use Rattle.octets.specs.Lists.{joined}
-use Rattle.slip.specs.Slips.{slip, Got, refuse, got, then}
+use Rattle.slip.specs.Slips.{slip, refuse, got, then}
 use Rattle.tape.specs.Layout.{the}
 use Rattle.tape.specs.View.{TapeView, is_at, entries}
-use Rattle.schema.specs.Tree.{Node, Fields, Field, Branch, branch, leaf, struct, list, fixed, children_of, many, names}
+use Rattle.schema.specs.Tree.{Node, Fields, Field, branch, leaf, children_of, many, names}
+use Rattle.schema.specs.declared.kind.Branch.{Branch}
+use Rattle.schema.specs.declared.kind.Branch.TheVariants.{Struct as struct, List as list, Fixed as fixed}
 use Rattle.schema.specs.declared.settings.Settings.{Settings}
 use Rattle.batch.specs.Rows.{letter, listed, placed, items_at, row_at, singles}
 use Rattle.batch.specs.Suited.{Counted}
@@ -17,18 +19,12 @@ use Rattle.batch.specs.Values.{Setup, hides, taken, zeros, below}
 use Rattle.rows.specs.Entering.{rows_at, items_of}
 use Rattle.laws.specs.Shelf.{slots_of, bare}
 use Rattle.nodes.specs.Nodes.{gotten, below_of, items_in, entering, leaving}
+use Rattle.nodes.proofs.Gets.{then_got, got_same}
 use Rattle.bare.specs.Slots.{hidden_at, has_slot, veiled}
 use Rattle.bare.proofs.Veils.{veiled_by, veiled-append, veiled_none, veiled-all}
 
 abbrev Rows : Type 0
 Rows = List (Option (List (List ℕ)))
-
-pub then_got : {A B : Type 0} (a : Got A) (k : A → Got B) (y : B) → got y ≡ then a k → (x : A) × (a ≡ got x) × (got y ≡ k x)
-then_got (refuse r) k y e = absurd (let z : ◌≡◌ {A = ℕ} 0 1 = cc in omega arith)
-then_got (got x) k y e = (x, refl, e)
-
-pub got_same : {A : Type 0} (x y : A) → ◌≡◌ {A = Got A} (got x) (got y) → x ≡ y
-got_same x y e = cc
 
 -- a row is null where its bracket is not, and else has as many items as its branch takes
 abbrev RowIs : Branch → Bool → Option (List (List ℕ)) → Type 0
@@ -52,7 +48,7 @@ module _ (s : Settings) (t : TapeView) (f : Field) (cs : Fields) where
       go : (b : Bool) → eqb (length (entries t p)) n ≡ b → got is ≡ cond b (got (singles (entries t p))) (refuse (slip 9 f.number p)) → length is ≡ n
       go true q e = ap length (got_same is (singles (entries t p)) e) ∙ length-map (entries t p) (λ x. x ∷ []) ∙ eqb-true (length (entries t p)) n q
       go false q e = absurd (let z : ◌≡◌ {A = ℕ} 0 1 = cc in omega arith)
-  counted Branch.map p is e = tt
+  counted Branch.Map p is e = tt
 
   row_is : (b : Branch) (inForce : Bool) (p : ℕ) (o : Option (List (List ℕ))) → got o ≡ row_at s t f b cs inForce p → RowIs b (is_at t (letter s b) p) o
   row_is b inForce p o e = go (is_at t (letter s b) p) (inForce && (is_at t (the "z") p || s.lenient)) e
@@ -132,13 +128,13 @@ module _ (s : Settings) (t : TapeView) (f : Field) (cs : Fields) (ps : List ℕ)
       let size = blocks_size (fixed 0) 0 (zeros cs) refl (λ is c. c) (is_at t (letter s (fixed 0))) ps rows r in
       plain (hidden_at s t (branch f (fixed 0) cs) ps) (fixed 0) (zeros cs) refl rows (λ k l. absurd (omega (arith, size)))
   veiled_slots (fixed (suc n)) r = blocks (fixed (suc n)) (suc n) (zeros cs) refl (λ is c. c) (is_at t (letter s (fixed (suc n)))) (omega arith) ps rows r
-  veiled_slots Branch.map r = plain (hidden_at s t (branch f Branch.map cs) ps) Branch.map (zeros cs) refl rows (λ k l. refl)
+  veiled_slots Branch.Map r = plain (hidden_at s t (branch f Branch.Map cs) ps) Branch.Map (zeros cs) refl rows (λ k l. refl)
 
   has_slots : (b : Branch) → Rowed b (is_at t (letter s b)) ps rows → (i : ℕ) → i < length (items_of b cs rows) → has_slot (branch f b cs) (length ps) i
   has_slots struct r i l = let size = blocks_size struct 1 (zeros cs) refl (λ is c. c) (is_at t (letter s struct)) ps rows r in omega (arith, size)
   has_slots (list view wide) r i l = tt
   has_slots (fixed n) r i l = let size = blocks_size (fixed n) n (zeros cs) refl (λ is c. c) (is_at t (letter s (fixed n))) ps rows r in omega (arith, size)
-  has_slots Branch.map r i l = tt
+  has_slots Branch.Map r i l = tt
 
 -- what is tested in leaving a node whose rows were accepted
 module _ (st : Setup) (t : TapeView) (inForce : Bool) (ps : List ℕ) (free left top next : ℕ) where

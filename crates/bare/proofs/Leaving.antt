@@ -1,129 +1,130 @@
 -- Leaving a node: from what it requires, through its children, to its answer.
-use Rattle.std.proofs.Common.{◌≡◌, ℕ, ◌+◌, ◌-◌, ◌*◌, ◌^◌, ◌<◌, ◌≤◌, Bool, ◌||◌, List, length, get_or, take, drop, Err, Result, sym, refl, ap, ◌∙◌, subst, add-mul, one-mul, zero-add, arith, length-drop, get_or-drop, get_or-take}
-use Rattle.std.specs.List.{between}
-use Rattle.std.proofs.lemmas.List.{length-take-le}
-use Rattle.octets.specs.Lists.{part}
+use Rattle.std.proofs.Common.{◌≡◌, ℕ, ◌+◌, ◌<◌, ◌≤◌, Bool, ◌||◌, List, [], ◌∷◌, ◌++◌, map, length, Err, Result, sym, refl, ap, ◌∙◌, arith}
+use Rattle.octets.specs.Lists.{first, rest, via}
 use Rattle.slip.specs.declared.Fault.{Fault}
-use Rattle.slip.specs.Slips.{Got, refuse, got, answer_of, slip_of}
-use Rattle.tape.specs.Layout.{element_count}
-use Rattle.tape.specs.View.{TapeView, is_position}
-use Rattle.schema.specs.Tree.{Node, field_of, children_of}
-use Rattle.schema.specs.Layout.{end_at}
+use Rattle.slip.specs.Slips.{Got, refuse, got, then, answer_of, slip_of}
+use Rattle.schema.specs.Tree.{Node, Fields, field_of, children_of, numbers}
 use Rattle.schema.specs.Held.{Held}
-use Rattle.schema.specs.declared.settings.Settings.{Settings}
 use Rattle.schema.proofs.Nodes.{held_children}
-use Rattle.leaf.specs.Meaning.{Meaning}
-use Rattle.nodes.specs.Contract.{setup_of, OfTree, Lying}
+use Rattle.batch.specs.Values.{Setup}
+use Rattle.laws.specs.Shelf.{bare}
+use Rattle.nodes.specs.Contract.{Seen, setup_in, HeldHere, OfTree, Lying, Leaves}
 use Rattle.nodes.specs.Nodes.{below_of, items_in, unbare, leaving}
+use Rattle.nodes.proofs.Kids.{Kids, First, first-kid, enough, own_positions, left-kids, no_kids}
 use Rattle.bare.specs.Slots.{hidden_at, has_slot, veiled}
-use Rattle.bare.proofs.Between.{Between}
+use Rattle.bare.proofs.Veils.{veiled-map}
 use Rattle.bare.proofs.Forms.{leaving-veiled, leaving_slots}
-use Rattle.bare.proofs.Testing.{First, first-left, broke, step, last, position_within, row_within}
 
-row_size_lem : (k n : ℕ) → (k + 1) * n - k * n ≡ n
-row_size_lem k n = let m : (k + 1) * n ≡ k * n + 1 * n = add-mul k 1 n in omega (arith, m, one-mul n)
+module _ (v : Seen) (root : Node) (size : ℕ) (T : Node) where
+  abbrev st : Setup
+  st = setup_in v root size
 
-pub row-part : (xs : List ℕ) (k n : ℕ) → between (k * n) ((k + 1) * n) xs ≡ part xs (k * n) n
-row-part xs k n = ap (λ j. take j (drop (k * n) xs)) (row_size_lem k n)
+  abbrev down : Node → Bool
+  down c = below_of T v.in_force || (field_of c).nullable
 
-module _ (s : Settings) (m : Meaning) (t : TapeView) (rs ns : List ℕ) (node : ℕ) (inForce : Bool) (ps : List ℕ) (kids stride : ℕ) (mine : List ℕ)
-    (pre : Lying s m t rs ns node inForce ps kids stride mine) where
+  abbrev hid : ℕ → Bool
+  hid = hidden_at v.settings v.tape T v.positions
+
+  abbrev all : List (List ℕ)
+  all = items_in st v.tape T v.in_force v.positions
+
+  abbrev bare_left : Fields → List (List ℕ) → Got (Unit {0})
+  bare_left cs items = bare st v.tape cs (below_of T v.in_force) (veiled hid 0 items)
+
+  -- between two children: what is left to test gives what the whole gives
+  pub record Between (stride : ℕ) (mine coming : List ℕ) : Type 0 where
+    pub kids : Kids v stride mine coming
+    pub short : stride ≡ length all
+    pub outcome : bare_left kids.others kids.items ≡ bare_left (children_of T) all
+
+  module _ (stride : ℕ) (mine coming : List ℕ) (b : Between stride mine coming) where
+    module _ (x : ℕ) (after : List ℕ) (f : First v stride b.kids.others b.kids.here x after) (qs others : List ℕ) (forced : Bool) (split : mine ≡ qs ++ others) (short : length qs ≡ stride) (is-forced : forced ≡ down f.child) where
+      own : qs ≡ map first b.kids.items
+      own = own_positions v stride mine coming b.kids x after f qs others split short
+
+      told : (a : Got (Unit {0})) → a ≡ unbare st v.tape f.child forced (veiled hid 0 qs) → then a (λ _. bare_left f.more (map rest b.kids.items)) ≡ bare_left (children_of T) all
+      told a e =
+          let V = veiled hid 0 b.kids.items in
+          ap (λ g. then g (λ _. bare_left f.more (map rest b.kids.items)))
+          (e ∙ ap (λ d. unbare st v.tape f.child d (veiled hid 0 qs)) is-forced ∙ ap (λ ps. unbare st v.tape f.child (down f.child) (veiled hid 0 ps)) own)
+          ∙ ap (λ os. then (unbare st v.tape f.child (down f.child) os) (λ _. bare_left f.more (map rest b.kids.items))) (sym (veiled-map first hid 0 b.kids.items))
+          ∙ ap (λ os. then (unbare st v.tape f.child (down f.child) (map (via first) V)) (λ _. bare st v.tape f.more (below_of T v.in_force) os)) (sym (veiled-map rest hid 0 b.kids.items))
+          ∙ ap (λ cs. bare_left cs b.kids.items) (sym f.are)
+          ∙ b.outcome
+
+      step : got tt ≡ unbare st v.tape f.child forced (veiled hid 0 qs) → Between stride others after
+      unfolding left-kids
+      step e = record { kids = left-kids v stride mine coming b.kids x after f qs others split short; short = b.short; outcome = told (got tt) e }
+
+    last : coming ≡ [] → got tt ≡ bare_left (children_of T) all
+    last e = ap (λ cs. bare_left cs b.kids.items) (sym (no_kids v stride mine coming b.kids e)) ∙ b.outcome
+
+abbrev pub Inside : Seen → (stride : ℕ) → (mine coming : List ℕ) → Type 0
+Inside v stride mine coming = (root : Node) (size : ℕ) (T : Node) → HeldHere v T → Between v root size T stride mine coming
+
+module _ {v : Seen} {stride : ℕ} {whole : List ℕ} (pre : Lying v stride whole) where
   abbrev T₀ : Node
   T₀ = pre.formed.0
 
-  -- what is left at a child gives the whole
-  abbrev Inside : (here k : ℕ) → Type 0
-  Inside here k = OfTree s m t rs ns node inForce ps (λ st T.
-      Between st t rs ns (below_of T inForce) (hidden_at s t T ps) mine stride kids (children_of T) (items_in st t T inForce ps) here k)
+  abbrev h₀ : HeldHere v T₀
+  h₀ = pre.formed.1
 
-  pub begun : Inside (node + 1) 0
-  begun root size T h =
+  pub begun : (coming : List ℕ) → ((T : Node) → HeldHere v T → coming ≡ numbers (children_of T)) → Inside v stride whole coming
+  begun coming are = λ root size T h.
       let a = pre.all root size T h in
       record {
-        others = children_of T;
-        items = items_in (setup_of s m root size) t T inForce ps;
-        placed = held_children h;
-        left = omega (arith, a.kids_are);
-        parts = λ j l. ap (λ i. part mine (i * stride) stride) (zero-add j) ∙ a.parts j (omega (arith, a.kids_are));
+        kids =
+            record {
+              here = v.node + 1;
+              others = children_of T;
+              items = items_in (setup_in v root size) v.tape T v.in_force v.positions;
+              placed = held_children h;
+              numbered = are T h;
+              size = a.size;
+              parts = a.parts;
+            };
+        short = a.stride_is;
         outcome = refl;
       }
 
-  whole : length mine ≡ kids * stride
-  whole = (pre.all T₀ 0 T₀ pre.formed.1).size
+  module _ (mine coming : List ℕ) (b : Inside v stride mine coming) where
+    module _ {x : ℕ} {after : List ℕ} (is : coming ≡ x ∷ after) where
+      first_at : (root : Node) (size : ℕ) (T : Node) (h : HeldHere v T) → First v stride (b root size T h).kids.others (b root size T h).kids.here x after
+      first_at root size T h = first-kid v stride mine coming (b root size T h).kids is
 
-  pub rows_in : (i : ℕ) → i < length ps → get_or ps i 0 < element_count t.elements
-  rows_in i l = position_within t (get_or ps i 0) (pre.positions i l)
+      pub child_is : (c : Node) × Held v.records v.names x c
+      child_is = let f = first_at T₀ 0 T₀ h₀ in (f.child, f.there)
 
-  module _ (here k : ℕ) (w : Inside here k) where
-    module _ (k-in : k < kids) where
-      -- a child's positions end within the list
-      pub ends_in : (k + 1) * stride ≤ length mine
-      ends_in = let a : (k + 1) * stride ≡ k * stride + 1 * stride = add-mul k 1 stride in omega (arith, a, one-mul stride, row_within k kids stride k-in, whole)
+      pub child_enough : stride ≤ length mine
+      child_enough = enough v stride mine coming (b T₀ 0 T₀ h₀).kids x after (first_at T₀ 0 T₀ h₀)
 
-      pub ends_few : (k + 1) * stride ≤ 2 ^ 24
-      ends_few = omega (arith, ends_in, pre.few)
+      module _ (qs others : List ℕ) (halves : mine ≡ qs ++ others) (short : length qs ≡ stride) where
+        pub slots_had : (T : Node) × HeldHere v T × ((i : ℕ) → i < length qs → has_slot T (length v.positions) i)
+        slots_had =
+            let a = pre.all T₀ 0 T₀ h₀ in
+            let e = a.accepted in
+            (T₀, h₀, λ i l. leaving_slots (setup_in v T₀ 0) v.tape v.in_force v.positions e.1 e.2 e.3 e.0 T₀ (sym e.4) i (omega (arith, short, a.stride_is)))
 
-      pub starts_few : k * stride ≤ 2 ^ 24
-      starts_few = let a : (k + 1) * stride ≡ k * stride + 1 * stride = add-mul k 1 stride in omega (arith, ends_few, a)
+        module _ (forced : Bool) (is-forced : (T : Node) → HeldHere v T → (c : Node) → Held v.records v.names x c → forced ≡ (below_of T v.in_force || (field_of c).nullable)) where
+          -- what is said of the child
+          abbrev pub Told : Got (Unit {0}) → Type 0
+          Told a = (root : Node) (size : ℕ) (T c : Node) → HeldHere v T → Held v.records v.names x c → a ≡ unbare (setup_in v root size) v.tape c forced (veiled (hidden_at v.settings v.tape T v.positions) 0 qs)
 
-      first_now : (root : Node) (size : ℕ) (T : Node) → Held rs ns node T
-          → First (setup_of s m root size) t rs ns (below_of T inForce) (hidden_at s t T ps) mine stride kids (children_of T) (items_in (setup_of s m root size) t T inForce ps) here k
-      first_now root size T h =
-          first-left (setup_of s m root size) t rs ns (below_of T inForce) (hidden_at s t T ps) mine stride kids (children_of T) (items_in (setup_of s m root size) t T inForce ps) here k k-in (w root size T h)
+          pub one_more : Told (got tt) → Inside v stride others after
+          one_more a = λ root size T h.
+              let f = first_at root size T h in
+              step v root size T stride mine coming (b root size T h) x after f qs others forced halves short (is-forced T h f.child f.there) (a root size T f.child h f.there)
 
-      pub child_is : (c : Node) × Held rs ns here c
-      child_is = let f = first_now T₀ 0 T₀ pre.formed.1 in (f.child, f.there)
+          pub not_one : (z y : Fault) (r : Result (Unit {0}) Fault) → r ≡ Err z → z ≡ y → Told (refuse (slip_of y)) → Leaves v r
+          not_one z y r is' z-is a = λ root size T h.
+              let f = first_at root size T h in
+              let e = (pre.all root size T h).accepted in
+              ap answer_of (is' ∙ ap Err z-is)
+              ∙ told v root size T stride mine coming (b root size T h) x after f qs others forced halves short (is-forced T h f.child f.there) (refuse (slip_of y)) (a root size T f.child h f.there)
+              ∙ leaving-veiled (setup_in v root size) v.tape v.in_force v.positions e.1 e.2 e.3 e.0 T (sym e.4)
 
-      abbrev qs : List ℕ
-      qs = between (k * stride) ((k + 1) * stride) mine
-
-      same : qs ≡ part mine (k * stride) stride
-      same = row-part mine k stride
-
-      size_is : length qs ≡ stride
-      size_is = ap length same ∙ length-take-le stride (drop (k * stride) mine) (omega (arith, length-drop (k * stride) mine, row_within k kids stride k-in, whole))
-
-      pub slots_in : (i : ℕ) → i < length qs → get_or qs i 0 < element_count t.elements
-      slots_in i l =
-          let l' : i < stride = omega (arith, size_is) in
-          let at : get_or qs i 0 ≡ get_or mine (k * stride + i) 0 = ap (λ xs. get_or xs i 0) same ∙ get_or-take stride (drop (k * stride) mine) i 0 l' ∙ get_or-drop (k * stride) mine i 0 in
-          position_within t (get_or qs i 0) (ap (is_position t) at ∙ pre.within (k * stride + i) (omega (arith, whole, row_within k kids stride k-in)))
-
-      pub slots_had : (T : Node) × Held rs ns node T × ((i : ℕ) → i < length qs → has_slot T (length ps) i)
-      slots_had =
-          let a = pre.all T₀ 0 T₀ pre.formed.1 in
-          let e = a.accepted in
-          (T₀, pre.formed.1, λ i l. leaving_slots (setup_of s m T₀ 0) t inForce ps e.1 e.2 e.3 e.0 T₀ (sym e.4) i (omega (arith, size_is, a.stride_is)))
-
-      module _ (forced down : Bool) (is-forced : (T : Node) → Held rs ns node T → forced ≡ below_of T inForce)
-          (is_down : (c : Node) → Held rs ns here c → down ≡ (forced || (field_of c).nullable)) where
-        -- what is said of the child
-        abbrev Told : Got (Unit {0}) → Type 0
-        Told a = (root : Node) (size : ℕ) (T c : Node) → Held rs ns node T → Held rs ns here c → a ≡ unbare (setup_of s m root size) t c down (veiled (hidden_at s t T ps) 0 qs)
-
-        is_both : (T c : Node) → Held rs ns node T → Held rs ns here c → down ≡ (below_of T inForce || (field_of c).nullable)
-        is_both T c h d = is_down c d ∙ ap (λ b. b || (field_of c).nullable) (is-forced T h)
-
-        pub one_more : (here' : ℕ) → here' ≡ end_at rs here → Told (got tt) → Inside here' (k + 1)
-        one_more here' at a = subst (λ (n : ℕ). Inside n (k + 1)) (sym at) (λ root size T h.
-            let st = setup_of s m root size in
-            let f = first_now root size T h in
-            step st t rs ns (below_of T inForce) (hidden_at s t T ps) mine stride kids (children_of T) (items_in st t T inForce ps) here k
-            f qs down same (is_both T f.child h f.there) (a root size T f.child h f.there))
-
-        pub not_one : (z y : Fault) (r : Result (Unit {0}) Fault) → r ≡ Err z → z ≡ y → Told (refuse (slip_of y)) → OfTree s m t rs ns node inForce ps (λ st T. answer_of r ≡ leaving st t T inForce ps)
-        not_one z y r is z-is a = λ root size T h.
-            let st = setup_of s m root size in
-            let f = first_now root size T h in
-            let e = (pre.all root size T h).accepted in
-            ap answer_of (is ∙ ap Err z-is)
-            ∙ broke st t rs ns (below_of T inForce) (hidden_at s t T ps) mine stride kids (children_of T) (items_in st t T inForce ps) here k
-            f qs down same (is_both T f.child h f.there) y (a root size T f.child h f.there)
-            ∙ leaving-veiled st t inForce ps e.1 e.2 e.3 e.0 T (sym e.4)
-
-    pub none_left : kids ≤ k → OfTree s m t rs ns node inForce ps (λ st T. got tt ≡ leaving st t T inForce ps)
-    none_left k-past = λ root size T h.
-        let st = setup_of s m root size in
+    pub none_left : coming ≡ [] → OfTree v (λ st T. got tt ≡ leaving st v.tape T v.in_force v.positions)
+    none_left none = λ root size T h.
         let e = (pre.all root size T h).accepted in
-        last st t rs ns (below_of T inForce) (hidden_at s t T ps) mine stride kids (children_of T) (items_in st t T inForce ps) here k k-past (w root size T h)
-        ∙ leaving-veiled st t inForce ps e.1 e.2 e.3 e.0 T (sym e.4)
+        last v root size T stride mine coming (b root size T h) none
+        ∙ leaving-veiled (setup_in v root size) v.tape v.in_force v.positions e.1 e.2 e.3 e.0 T (sym e.4)

@@ -1,7 +1,6 @@
 pub mod Veils
 pub mod Forms
 pub mod Nulls
-pub mod Between
 pub mod Testing
 pub mod Signs
 pub mod Leaving

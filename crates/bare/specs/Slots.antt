@@ -3,7 +3,9 @@ use Rattle.std.specs.Prelude.{ℕ, ◌+◌, ◌*◌, ◌/◌, ◌<◌, Bool, tru
 use Rattle.std.proofs.Math.Option.{Option, none, some}
 use Rattle.tape.specs.Layout.{the}
 use Rattle.tape.specs.View.{TapeView, is_at}
-use Rattle.schema.specs.Tree.{Node, Branch, branch, leaf, struct, list, fixed}
+use Rattle.schema.specs.Tree.{Node, branch, leaf}
+use Rattle.schema.specs.declared.kind.Branch.{Branch}
+use Rattle.schema.specs.declared.kind.Branch.TheVariants.{Struct as struct, List as list, Fixed as fixed}
 use Rattle.schema.specs.declared.settings.Settings.{Settings}
 use Rattle.leaf.specs.Meaning.{Answer, nothing, conflict, misfit}
 use Rattle.batch.specs.Rows.{letter}
@@ -23,7 +25,7 @@ abbrev pub hidden_at : Settings → TapeView → Node → (rows : List ℕ) → 
 hidden_at s t (branch f struct cs) rows slot = not (is_at t (letter s struct) (slice_index rows slot))
 hidden_at s t (branch f (list view wide) cs) rows slot = false
 hidden_at s t (branch f (fixed n) cs) rows slot = not (is_at t (letter s (fixed n)) (slice_index rows (slot / n)))
-hidden_at s t (branch f Branch.map cs) rows slot = false
+hidden_at s t (branch f Branch.Map cs) rows slot = false
 hidden_at s t (leaf f k) rows slot = false
 
 -- the children of a struct have a slot for each row, and those of a fixed-size list as many as it counts
@@ -31,7 +33,7 @@ abbrev pub has_slot : Node → (rows slot : ℕ) → Type 0
 has_slot (branch f struct cs) rows slot = slot < rows
 has_slot (branch f (list view wide) cs) rows slot = Unit {0}
 has_slot (branch f (fixed n) cs) rows slot = slot < n * rows
-has_slot (branch f Branch.map cs) rows slot = Unit {0}
+has_slot (branch f Branch.Map cs) rows slot = Unit {0}
 has_slot (leaf f k) rows slot = Unit {0}
 
 -- of the slots from i on, those that are not hidden

@@ -10,7 +10,9 @@ use Rattle.std.proofs.ByRecursion.{All-append, All-map, All-weaker, All-get_or}
 use Rattle.octets.specs.Lists.{part, joined, between}
 use Rattle.octets.specs.Numbers.{bitmap_bit}
 use Rattle.octets.proofs.Pieces.{between-at, part_in, take_own}
-use Rattle.schema.specs.Tree.{Node, Fields, Field, Branch, branch, leaf, struct, list, fixed, ◌⊕◌, field_of, nodes, nodes_in, Childed, WellFormed}
+use Rattle.schema.specs.Tree.{Node, Fields, Field, branch, leaf, ◌⊕◌, field_of, nodes, nodes_in, Childed, WellFormed}
+use Rattle.schema.specs.declared.kind.Branch.{Branch}
+use Rattle.schema.specs.declared.kind.Branch.TheVariants.{Struct as struct, List as list, Fixed as fixed}
 use Rattle.leaf.specs.declared.layout.Layout.{Layout}
 use Rattle.leaf.specs.declared.layout.Layout.TheVariants.{None, Bit, Text, Eight}
 use Rattle.slip.specs.Slips.{Got, got, then, each}
@@ -96,7 +98,7 @@ module _ {A : Type 0} (b : Branch) (c : Column) (es : List A) (k : ℕ) where
       go (list false w) = refl
       go (list true w) = refl
       go (fixed n) = refl
-      go Branch.map = refl
+      go Branch.Map = refl
 
   leads_slot : (g : ℕ → Got A) (place : ℕ) → Reads g es → (o : Option (List A)) → SlotIs b c es k o → leads g (cond (is_valid c k) (shape_cell (branch_shape b) place c k) (cell_of 0 0 0)) ≡ got o
   leads_slot g place reads none s = rw s.valid
@@ -151,8 +153,8 @@ module _ (st : Setup) (all : List ℕ) where
   few_items f (list v w) Fields.none is i h s = absurd (omega arith)
   few_items f (list v w) (c ⊕ cs) is i h s = few_in c cs is i s
   few_items f (fixed n) cs is i h s = tt
-  few_items f Branch.map Fields.none is i h s = absurd (omega arith)
-  few_items f Branch.map (c ⊕ cs) is i h s = few_in c cs is i s
+  few_items f Branch.Map Fields.none is i h s = absurd (omega arith)
+  few_items f Branch.Map (c ⊕ cs) is i h s = few_in c cs is i s
 
 -- a node that stands at the index i
 pub record Stands (root c : Node) (i : ℕ) (more : List Node) : Type 0 where

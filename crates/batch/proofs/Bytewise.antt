@@ -5,7 +5,9 @@ use Rattle.std.specs.List.{AllByRecursion}
 use Rattle.std.proofs.ByRecursion.{All-append, All-map, All-weaker}
 use Rattle.octets.specs.Lists.{part, joined, between, running, starts, is_some, or_else}
 use Rattle.octets.specs.Numbers.{le, padded, pad, numbers, weighed, packed}
-use Rattle.schema.specs.Tree.{Node, Fields, Branch, branch, leaf, struct, list, fixed, ◌⊕◌}
+use Rattle.schema.specs.Tree.{Node, Fields, branch, leaf, ◌⊕◌}
+use Rattle.schema.specs.declared.kind.Branch.{Branch}
+use Rattle.schema.specs.declared.kind.Branch.TheVariants.{Struct as struct, List as list, Fixed as fixed}
 use Rattle.tape.specs.View.{null}
 use Rattle.leaf.specs.Bytes.{AreBytes, GivesBytes}
 use Rattle.leaf.specs.declared.layout.Layout.{Layout}
@@ -78,7 +80,7 @@ branch_bytes struct os = column_bytes os [] [] tt tt
 branch_bytes (list false w) os = column_bytes os _ [] (numbers_bytes (width w) (running 0 (sizes os))) tt
 branch_bytes (list true w) os = column_bytes os _ _ (numbers_bytes (width w) (starts 0 (sizes os))) (numbers_bytes (width w) (sizes os))
 branch_bytes (fixed n) os = column_bytes os [] [] tt tt
-branch_bytes Branch.map os = column_bytes os _ [] (numbers_bytes 4 (running 0 (sizes os))) tt
+branch_bytes Branch.Map os = column_bytes os _ [] (numbers_bytes 4 (running 0 (sizes os))) tt
 
 filled_bytes : (d : List ℕ) → AreBytes d → (os : List (Option (List ℕ))) → AllByRecursion (Present AreBytes) os → AreBytes (joined (map (or_else d) os))
 filled_bytes d p [] h = tt

@@ -5,7 +5,9 @@ use lib.ListN.{length-map}
 use Rattle.std.proofs.lemmas.List.{map-append}
 use Rattle.octets.specs.Lists.{joined, running, starts, is_some, via}
 use Rattle.octets.specs.Numbers.{numbers}
-use Rattle.schema.specs.Tree.{Node, Fields, Branch, branch, leaf, struct, list, fixed, ◌⊕◌, nodes, nodes_in}
+use Rattle.schema.specs.Tree.{Node, Fields, branch, leaf, ◌⊕◌, nodes, nodes_in}
+use Rattle.schema.specs.declared.kind.Branch.{Branch}
+use Rattle.schema.specs.declared.kind.Branch.TheVariants.{Struct as struct, List as list, Fixed as fixed}
 use Rattle.leaf.specs.declared.layout.Layout.{Layout}
 use Rattle.leaf.specs.declared.layout.Layout.TheVariants.{None, Bit, Text, Eight}
 use Rattle.batch.specs.Values.{Setup, Value, Item, hides, taken}
@@ -38,7 +40,7 @@ module _ {A B : Type 0} (g : A → B) where
   branch_column-via (list false w) os = rw (sizes-via os) (column-via (map g) os (numbers (width w) (running 0 (sizes os))) [])
   branch_column-via (list true w) os = rw (sizes-via os) (column-via (map g) os (numbers (width w) (starts 0 (sizes os))) (numbers (width w) (sizes os)))
   branch_column-via (fixed n) os = column-via (map g) os [] []
-  branch_column-via Branch.map os = rw (sizes-via os) (column-via (map g) os (numbers 4 (running 0 (sizes os))) [])
+  branch_column-via Branch.Map os = rw (sizes-via os) (column-via (map g) os (numbers 4 (running 0 (sizes os))) [])
 
   replicate-map : (n : ℕ) (x : A) (y : B) → g x ≡ y → replicate n y ≡ map g (replicate n x)
   replicate-map zero x y e = refl
@@ -60,7 +62,7 @@ branch_slots struct os = (refl, nulls-le os)
 branch_slots (list false w) os = (refl, nulls-le os)
 branch_slots (list true w) os = (refl, nulls-le os)
 branch_slots (fixed n) os = (refl, nulls-le os)
-branch_slots Branch.map os = (refl, nulls-le os)
+branch_slots Branch.Map os = (refl, nulls-le os)
 
 pub leaf_slots : (l : Layout) (w : ℕ) (os : List (Option (List ℕ))) → ((leaf_column l w os).slots ≡ length os) × ((leaf_column l w os).nulls ≤ length os)
 leaf_slots None w os = (refl, omega arith)

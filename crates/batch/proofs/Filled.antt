@@ -7,7 +7,9 @@ use Rattle.std.proofs.lemmas.List.{get_or-map}
 use Rattle.std.proofs.ByRecursion.{All-map, All-weaker, All-get_or}
 use Rattle.std.proofs.lemmas.Bool.{both_ways, and_parts, or_parts}
 use Rattle.octets.specs.Lists.{joined, is_some, via, all, or_else, first, rest}
-use Rattle.schema.specs.Tree.{Node, Fields, Branch, branch, leaf, struct, list, fixed, ◌⊕◌, field_of, nodes, nodes_in, WellFormed}
+use Rattle.schema.specs.Tree.{Node, Fields, branch, leaf, ◌⊕◌, field_of, nodes, nodes_in, WellFormed}
+use Rattle.schema.specs.declared.kind.Branch.{Branch}
+use Rattle.schema.specs.declared.kind.Branch.TheVariants.{Struct as struct, List as list, Fixed as fixed}
 use Rattle.tape.specs.View.{TapeView}
 use Rattle.leaf.specs.declared.layout.Layout.{Layout}
 use Rattle.leaf.specs.declared.layout.Layout.TheVariants.{None, Bit, Text, Eight}
@@ -90,7 +92,7 @@ branch_valid struct os k d h = valid_is os [] [] k d h
 branch_valid (list false w) os k d h = valid_is os [] [] k d h
 branch_valid (list true w) os k d h = valid_is os [] [] k d h
 branch_valid (fixed n) os k d h = valid_is os [] [] k d h
-branch_valid Branch.map os k d h = valid_is os [] [] k d h
+branch_valid Branch.Map os k d h = valid_is os [] [] k d h
 
 leaf_valid : (l : Layout) (w : ℕ) (os : List (Option (List ℕ))) → keeps_none l ≡ false → (k : ℕ) (d : Option (List ℕ)) → k < length os → is_valid (leaf_column l w os) k ≡ is_some (get_or os k d)
 leaf_valid None w os e k d h = absurd (both_ways true e refl)

@@ -3,7 +3,9 @@ use Rattle.std.proofs.Common.{◌≡◌, ℕ, Bool, true, false, cond, ◌&&◌,
 use mathlib.Core.List.{map-map}
 use mathlib.Core.Option.{none, some}
 use Rattle.octets.specs.Lists.{joined, via, first, rest}
-use Rattle.schema.specs.Tree.{Node, Fields, Field, Branch, branch, leaf, struct, list, fixed, ◌⊕◌, field_of}
+use Rattle.schema.specs.Tree.{Node, Fields, Field, branch, leaf, ◌⊕◌, field_of}
+use Rattle.schema.specs.declared.kind.Branch.{Branch}
+use Rattle.schema.specs.declared.kind.Branch.TheVariants.{Struct as struct, List as list, Fixed as fixed}
 use Rattle.tape.specs.Layout.{the}
 use Rattle.tape.specs.View.{TapeView, Elem, is_at, element_at}
 use Rattle.batch.specs.Values.{taken, NullFirst, Setup, meaning, zeros, below}
@@ -26,7 +28,7 @@ module _ (st : Setup) (t : TapeView) (null : NullFirst t) where
       go false = refl
   letter-apart (list v w) = refl
   letter-apart (fixed n) = refl
-  letter-apart Branch.map = refl
+  letter-apart Branch.Map = refl
 
   pub row_zero : (f : Field) (b : Branch) (cs : Fields) (force : Bool) → accepted (row_at st.settings t f b cs force 0) ≡ none
   row_zero f b cs force = go (is_at t (letter st.settings b) 0) (force && (is_at t (the "z") 0 || st.settings.lenient)) (rw null (letter-apart b))

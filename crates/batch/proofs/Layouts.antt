@@ -11,7 +11,10 @@ use Rattle.octets.specs.Lists.{joined, sum, between, running, starts, is_some, o
 use Rattle.octets.specs.Numbers.{numbers, packed}
 use Rattle.octets.proofs.Pieces.{length_even, length-running, length-starts, sum_more, sum-take-le}
 use Rattle.octets.proofs.Packs.{length-packed, length-numbers, spare_bits, bit_in}
-use Rattle.schema.specs.Tree.{Node, Fields, Branch, LeafKind, branch, leaf, struct, list, fixed, ◌⊕◌, field_of, nodes, nodes_in, WellFormed}
+use Rattle.schema.specs.Tree.{Node, Fields, branch, leaf, ◌⊕◌, field_of, nodes, nodes_in, WellFormed}
+use Rattle.schema.specs.declared.kind.Branch.{Branch}
+use Rattle.schema.specs.declared.kind.Branch.TheVariants.{Struct as struct, List as list, Fixed as fixed}
+use Rattle.schema.specs.declared.kind.LeafKind.{LeafKind}
 use Rattle.leaf.specs.declared.layout.Layout.{Layout}
 use Rattle.leaf.specs.declared.layout.Layout.TheVariants.{None, Bit, Text, Eight}
 use Rattle.batch.specs.Values.{Setup, Value, Item, meaning, taken}
@@ -109,9 +112,9 @@ branch_laid hidden os struct P z few = (marked os [] [], (refl, refl, even_long 
 branch_laid hidden os (list false w) P z few = (marked os _ [], (cuts os (width w) [] (omega (arith, wide_enough w)) (omega (arith, wide_half w)), refl))
 branch_laid hidden os (list true w) P z few = (marked os _ _, views os (width w) (omega (arith, wide_enough w)) (omega (arith, wide_half w)))
 branch_laid hidden os (fixed n) P z few = (marked os [] [], (refl, refl, even_long os n hidden P z))
-branch_laid hidden os Branch.map P z few =
+branch_laid hidden os Branch.Map P z few =
     let c = cuts os 4 [] (omega arith) (omega arith) in
-    (marked os _ [], (c, refl, full_marked (offset 4 (branch_column Branch.map os) (length os)), sym c.last))
+    (marked os _ [], (c, refl, full_marked (offset 4 (branch_column Branch.Map os) (length os)), sym c.last))
 
 leaf_laid : (os : List (Option (List ℕ))) (l : Layout) (kind : LeafKind) → AllByRecursion (Fits l) os → length (leaf_column l (text_width kind) os).bytes < 2 ^ 31
     → LeafLaid l (text_width kind) (leaf_column l (text_width kind) os)

@@ -12,3 +12,4 @@ pub mod Filled
 pub mod Whole
 pub mod Bytewise
 pub mod Spelled
+pub mod Words

@@ -5,7 +5,10 @@ use lib.ListN.{length-map}
 use Rattle.std.specs.List.{AllByRecursion}
 use Rattle.std.proofs.lemmas.Bool.{eqb-true}
 use Rattle.octets.specs.Lists.{via, rest, first}
-use Rattle.schema.specs.Tree.{Node, Fields, Field, Branch, LeafKind, branch, leaf, struct, list, fixed, ◌⊕◌, field_of}
+use Rattle.schema.specs.Tree.{Node, Fields, Field, branch, leaf, ◌⊕◌, field_of}
+use Rattle.schema.specs.declared.kind.Branch.{Branch}
+use Rattle.schema.specs.declared.kind.Branch.TheVariants.{Struct as struct, List as list, Fixed as fixed}
+use Rattle.schema.specs.declared.kind.LeafKind.{LeafKind}
 use Rattle.tape.specs.Layout.{the}
 use Rattle.tape.specs.View.{TapeView, Elem, element_at, entries, is_at}
 use Rattle.leaf.specs.Bytes.{Valued}
@@ -66,7 +69,7 @@ module _ (st : Setup) where
         items struct = one _
         items (list view wide) = tt
         items (fixed n) = count n (eqb (length (entries t p)) n) refl
-        items Branch.map = tt
+        items Branch.Map = tt
 
         go : (a c : Bool) → Present (Counted b) (accepted (cond a (then (items_at st.settings t f b cs p) (λ is. got (some is))) (cond c (got none) (refuse (slip 5 f.number p)))))
         go true c = items b
@@ -77,7 +80,7 @@ module _ (st : Setup) where
     counted-map g struct is h = length-map is g ∙ h
     counted-map g (list view wide) is h = tt
     counted-map g (fixed n) is h = length-map is g ∙ h
-    counted-map g Branch.map is h = tt
+    counted-map g Branch.Map is h = tt
 
     mutual
       pub sized_value : (c : Node) (force : Bool) (p : ℕ) → Sized st c (worth st t c force p)

@@ -12,7 +12,9 @@ use Rattle.octets.specs.Lists.{part, joined, sum, running, starts, is_some, or_e
 use Rattle.octets.specs.Numbers.{numbers, number_in, packed, bitmap_bit}
 use Rattle.octets.proofs.Pieces.{length_even, even_at, length-joined, joined_at, length-running, running-at, length-starts, starts-at, sum_more, sum-take-le}
 use Rattle.octets.proofs.Packs.{bit_in, length-packed, number_in_lem}
-use Rattle.schema.specs.Tree.{Branch, LeafKind, struct, list, fixed}
+use Rattle.schema.specs.declared.kind.Branch.{Branch}
+use Rattle.schema.specs.declared.kind.Branch.TheVariants.{Struct as struct, List as list, Fixed as fixed}
+use Rattle.schema.specs.declared.kind.LeafKind.{LeafKind}
 use Rattle.leaf.specs.Meaning.{is_bit}
 use Rattle.leaf.specs.declared.layout.Layout.{Layout}
 use Rattle.leaf.specs.declared.layout.Layout.TheVariants.{None, Bit, Text, Eight}
@@ -106,7 +108,7 @@ abbrev pub Spanned : Branch → ℕ → Type 0
 Spanned struct n = Unit {0}
 Spanned (list view wide) n = n < 2 ^ 31
 Spanned (fixed m) n = Unit {0}
-Spanned Branch.map n = n < 2 ^ 31
+Spanned Branch.Map n = n < 2 ^ 31
 
 -- validity
 marked_is : (bs : List ℕ) (j : ℕ) → 0 < length bs → is_marked bs j ≡ is_set bs j
@@ -154,7 +156,7 @@ module _ {A : Type 0} (hidden : A) (os : List (Option (List A))) where
       let a = replicate n hidden in
       let even : AllByRecursion (λ xs. length xs ≡ n) (map (or_else a) os) = even_filled n a P os (length-replicate n hidden) z in
       record { valid = valid_is os [] [] k d h; items = λ x e. (even_in n a os even k h, even_part n a os even k d h ∙ or_else_some a (get_or os k d) x e) }
-  slot_is Branch.map P z few k d h =
+  slot_is Branch.Map P z few k d h =
       record { valid = valid_is os (numbers 4 (running 0 (sizes os))) [] k d h; items = λ x e. spanned os 4 (omega arith) [] k d h x e }
 
 -- a slot of a leaf

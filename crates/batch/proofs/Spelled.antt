@@ -8,7 +8,8 @@ use Rattle.std.proofs.lemmas.Str.{IsUtf8-from_ascii}
 use Rattle.std.proofs.lemmas.Bool.{lt-ltb, cond-true, eqb-true, cases_lt}
 use Rattle.std.proofs.ByRecursion.{All-map, All-weaker, All-get_or}
 use Rattle.octets.specs.Lists.{joined, via, first, rest}
-use Rattle.schema.specs.Tree.{Node, Fields, LeafKind, branch, leaf, ◌⊕◌, field_of, nodes, nodes_in, WellFormed}
+use Rattle.schema.specs.Tree.{Node, Fields, branch, leaf, ◌⊕◌, field_of, nodes, nodes_in, WellFormed}
+use Rattle.schema.specs.declared.kind.LeafKind.{LeafKind}
 use Rattle.tape.specs.Layout.{the, letter_at, number_at, element_count}
 use Rattle.tape.specs.Opens.{Untorn}
 use Rattle.tape.specs.View.{TapeView, Elem, object, list, string, number, i64, i32, bool, null, is_at, words_at, element_at, twos}
@@ -148,11 +149,11 @@ pile-told false false e h = text_told e h
 
 module _ (st : Setup) where
   leaf_lettered : (k : LeafKind) (e : Elem) → Told e → Lettered k (shown ((meaning st k).answer e))
-  leaf_lettered (LeafKind.text wide) e h =
-      shown_of IsUtf8 ((meaning st (LeafKind.text wide)).answer e) (pile-told st.settings.lenient st.settings.coerce e h)
-  leaf_lettered LeafKind.boolean e h = tt
-  leaf_lettered LeafKind.null e h = tt
-  leaf_lettered LeafKind.custom e h = tt
+  leaf_lettered (LeafKind.Text wide) e h =
+      shown_of IsUtf8 ((meaning st (LeafKind.Text wide)).answer e) (pile-told st.settings.lenient st.settings.coerce e h)
+  leaf_lettered LeafKind.Boolean e h = tt
+  leaf_lettered LeafKind.Null e h = tt
+  leaf_lettered LeafKind.Custom e h = tt
 
   hidden_worded : (c : Node) → Worded c (hidden st c)
   hidden_worded (branch f b cs) = tt

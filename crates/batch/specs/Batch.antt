@@ -3,7 +3,9 @@ use Rattle.std.specs.Prelude.{◌≡◌, ℕ, ◌+◌, ◌*◌, true, false, con
 use Rattle.std.proofs.Math.Option.{Option, none, some}
 use Rattle.octets.specs.Numbers.{le, le_at, padded, pad, packed, numbers}
 use Rattle.octets.specs.Lists.{part, joined, running, starts, is_some, or_else}
-use Rattle.schema.specs.Tree.{Node, Fields, Branch, branch, leaf, struct, list, fixed, ◌⊕◌}
+use Rattle.schema.specs.Tree.{Node, Fields, branch, leaf, ◌⊕◌}
+use Rattle.schema.specs.declared.kind.Branch.{Branch}
+use Rattle.schema.specs.declared.kind.Branch.TheVariants.{Struct as struct, List as list, Fixed as fixed}
 use Rattle.tape.specs.View.{Elem}
 use Rattle.leaf.specs.Meaning.{shown}
 use Rattle.leaf.specs.declared.layout.Layout.{Layout}
@@ -37,7 +39,7 @@ branch_column struct os = column os [] []
 branch_column (list false wide) os = column os (numbers (width wide) (running 0 (sizes os))) []
 branch_column (list true wide) os = column os (numbers (width wide) (starts 0 (sizes os))) (numbers (width wide) (sizes os))
 branch_column (fixed n) os = column os [] []
-branch_column Branch.map os = column os (numbers 4 (running 0 (sizes os))) []
+branch_column Branch.Map os = column os (numbers 4 (running 0 (sizes os))) []
 
 -- the column of a leaf, by its layout; a null has a bit 0, no text, or eight zeros
 abbrev pub leaf_column : Layout → (width : ℕ) → List (Option (List ℕ)) → Column

@@ -3,12 +3,15 @@ use Rattle.std.specs.Prelude.{ℕ, ◌+◌, ◌-◌, ◌*◌, ◌^◌, min, true
 use Rattle.std.proofs.Math.Option.{none, some}
 use Rattle.octets.specs.Lists.{part, between}
 use Rattle.octets.specs.Numbers.{bitmap_bit}
-use Rattle.schema.specs.Tree.{nodes, Node, Fields, Branch, branch, leaf, struct, list, fixed, ◌⊕◌}
+use Rattle.schema.specs.Tree.{nodes, Node, Fields, branch, leaf, ◌⊕◌}
+use Rattle.schema.specs.declared.kind.Branch.{Branch}
+use Rattle.schema.specs.declared.kind.Branch.TheVariants.{Struct as struct, List as list, Fixed as fixed}
 use Rattle.leaf.specs.declared.layout.Layout.{Layout}
 use Rattle.leaf.specs.declared.layout.Layout.TheVariants.{None, Bit, Text, Eight}
 use Rattle.slip.specs.Slips.{refuse, not_there, Got, got, then, each}
 use Rattle.batch.specs.Values.{Setup, Value, Item, meaning}
 use Rattle.batch.specs.Format.{width, is_wide, Column, is_valid, offset, extent, span}
+use Rattle.batch.specs.declared.cell.Content.{Content}
 use Rattle.batch.specs.declared.cell.Shape.{Shape}
 use Rattle.batch.specs.declared.cell.Shape.TheVariants.{Struct, List as ListOf, View, Fixed, Map, Leaf}
 use Rattle.batch.specs.Batch.{record_in, column_in}
@@ -26,6 +29,14 @@ cell_of kind first second = record { kind = kind; first = first; second = second
 -- the three numbers of a cell
 abbrev pub triple : Cell → ℕ × ℕ × ℕ
 triple c = (c.kind, c.first, c.second)
+
+-- what stands in a slot, by its kind and two numbers
+abbrev pub numbers_of : Content → Cell
+numbers_of Content.Null = cell_of 0 0 0
+numbers_of (Content.Bit b) = cell_of 1 (cond b 1 0) 0
+numbers_of (Content.Bytes place size) = cell_of 2 place size
+numbers_of (Content.Items first count) = cell_of 3 first count
+numbers_of (Content.Fields slot) = cell_of 4 slot 0
 
 -- a cell that leads to children, by the first slot and their count
 abbrev pub children : ℕ × ℕ → Cell
@@ -52,7 +63,7 @@ shape_cell Struct place c slot = cell_of 4 slot 0
 shape_cell (ListOf wide) place c slot = children (span (list false wide) c slot)
 shape_cell (View wide) place c slot = children (span (list true wide) c slot)
 shape_cell (Fixed n) place c slot = children (span (fixed n) c slot)
-shape_cell Map place c slot = children (span Branch.map c slot)
+shape_cell Map place c slot = children (span Branch.Map c slot)
 shape_cell (Leaf layout wide) place c slot = leaf_cell layout (width wide) place c slot
 
 -- the cell of a node in a batch that begins at `base` of the page
@@ -71,7 +82,7 @@ branch_shape struct = Struct
 branch_shape (list false wide) = ListOf wide
 branch_shape (list true wide) = View wide
 branch_shape (fixed n) = Fixed n
-branch_shape Branch.map = Map
+branch_shape Branch.Map = Map
 
 -- of any node: a leaf's shape goes by the layout of its pile
 abbrev pub shape_of : Setup → Node → Shape

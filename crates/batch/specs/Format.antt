@@ -3,7 +3,10 @@ use Rattle.std.specs.Prelude.{◌≡◌, ℕ, ◌+◌, ◌-◌, ◌*◌, ◌/◌
 use Rattle.std.proofs.Math.Option.{Option, none, some}
 use Rattle.octets.specs.Lists.{part, sum, between}
 use Rattle.octets.specs.Numbers.{padded, number_in, bitmap_bit}
-use Rattle.schema.specs.Tree.{Node, Fields, Branch, LeafKind, branch, leaf, struct, list, fixed, ◌⊕◌, field_of}
+use Rattle.schema.specs.Tree.{Node, Fields, branch, leaf, ◌⊕◌, field_of}
+use Rattle.schema.specs.declared.kind.Branch.{Branch}
+use Rattle.schema.specs.declared.kind.Branch.TheVariants.{Struct as struct, List as list, Fixed as fixed}
+use Rattle.schema.specs.declared.kind.LeafKind.{LeafKind}
 use Rattle.leaf.specs.declared.layout.Layout.{Layout}
 use Rattle.leaf.specs.declared.layout.Layout.TheVariants.{None, Bit, Text, Eight}
 use Rattle.batch.specs.Suited.{Lettered}
@@ -36,10 +39,10 @@ width wide = cond wide 8 4
 
 -- a text may have wide offsets, and a custom leaf has narrow ones
 abbrev pub is_wide : LeafKind → Bool
-is_wide (LeafKind.text wide) = wide
-is_wide LeafKind.boolean = false
-is_wide LeafKind.null = false
-is_wide LeafKind.custom = false
+is_wide (LeafKind.Text wide) = wide
+is_wide LeafKind.Boolean = false
+is_wide LeafKind.Null = false
+is_wide LeafKind.Custom = false
 
 -- how wide a text's offsets are
 abbrev pub text_width : LeafKind → ℕ
@@ -59,7 +62,7 @@ span struct c j = (j, 1)
 span (list false wide) c j = (offset (width wide) c j, extent (width wide) c j)
 span (list true wide) c j = (offset (width wide) c j, number_in (width wide) c.bytes j)
 span (fixed n) c j = (n * j, n)
-span Branch.map c j = (offset 4 c j, extent 4 c j)
+span Branch.Map c j = (offset 4 c j, extent 4 c j)
 
 -- the value of a slot of a leaf
 abbrev pub leaf_in : Layout → (width : ℕ) → Column → ℕ → Option (List ℕ)
@@ -124,7 +127,7 @@ BranchLaid struct c n = (c.offsets ≡ []) × (c.bytes ≡ []) × (n ≡ c.slots
 BranchLaid (list false wide) c n = Cuts (width wide) c n × (c.bytes ≡ [])
 BranchLaid (list true wide) c n = Views (width wide) c n
 BranchLaid (fixed m) c n = (c.offsets ≡ []) × (c.bytes ≡ []) × (n ≡ m * c.slots)
-BranchLaid Branch.map c n = Cuts 4 c n × (c.bytes ≡ []) × Marked (entries_of c) × (n ≡ (entries_of c).slots)
+BranchLaid Branch.Map c n = Cuts 4 c n × (c.bytes ≡ []) × Marked (entries_of c) × (n ≡ (entries_of c).slots)
 
 -- ours: the bit or the eight bytes of a null are zero
 abbrev pub LeafLaid : Layout → (width : ℕ) → Column → Type 0

@@ -1,7 +1,9 @@
 -- One row of a branch: the items that it gives to the children, one position for each child.
 use Rattle.std.specs.Prelude.{ℕ, Bool, cond, ◌&&◌, ◌||◌, List, [], ◌∷◌, map, length, replicate, Some, None, ◌==◌, nat_lt, slice_index, slice_set}
 use Rattle.std.proofs.Math.Option.{Option, none, some}
-use Rattle.schema.specs.Tree.{Field, Fields, Branch, struct, list, fixed, many, names}
+use Rattle.schema.specs.Tree.{Field, Fields, many, names}
+use Rattle.schema.specs.declared.kind.Branch.{Branch}
+use Rattle.schema.specs.declared.kind.Branch.TheVariants.{Struct as struct, List as list, Fixed as fixed}
 use Rattle.schema.specs.declared.settings.Settings.{Settings}
 use Rattle.tape.specs.Layout.{the}
 use Rattle.tape.specs.View.{TapeView, is_at, entries, words_at}
@@ -23,7 +25,7 @@ abbrev pub letter : Settings → Branch → ℕ
 letter s struct = cond s.list_rows (the "[") (the "{")
 letter s (list view wide) = the "["
 letter s (fixed n) = the "["
-letter s Branch.map = the "{"
+letter s Branch.Map = the "{"
 
 -- the values of a list by field, of which there are n; one too many is an extra column (7), and too few are few columns (8)
 abbrev pub listed : Field → (n position : ℕ) → List ℕ → Got (List ℕ)
@@ -49,7 +51,7 @@ module _ (s : Settings) (t : TapeView) (f : Field) where
       then (cond s.list_rows (listed f (many cs) p (entries t p)) (placed (names cs) (entries t p) (replicate (many cs) 0))) (λ item. got (item ∷ []))
   items_at (list view wide) cs p = got (singles (entries t p))
   items_at (fixed n) cs p = cond (length (entries t p) == n) (got (singles (entries t p))) (refuse (slip 9 f.number p))
-  items_at Branch.map cs p = got (pairs (entries t p))
+  items_at Branch.Map cs p = got (pairs (entries t p))
 
   -- none is a null row: Null, and under lenient anything else that is wrong, where the node is nullable in force; else the kind is wrong (5)
   abbrev pub row_at : Branch → Fields → (inForce : Bool) → ℕ → Got (Option (List (List ℕ)))

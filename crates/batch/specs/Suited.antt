@@ -3,7 +3,10 @@ use Rattle.std.specs.Prelude.{◌≡◌, ℕ, Bool, true, false, List, length, I
 use Rattle.std.proofs.Math.Option.{Option, none, some}
 use Rattle.std.specs.List.{AllByRecursion}
 use Rattle.octets.specs.Lists.{is_some}
-use Rattle.schema.specs.Tree.{Node, Fields, Branch, LeafKind, branch, leaf, struct, list, fixed, ◌⊕◌}
+use Rattle.schema.specs.Tree.{Node, Fields, branch, leaf, ◌⊕◌}
+use Rattle.schema.specs.declared.kind.Branch.{Branch}
+use Rattle.schema.specs.declared.kind.Branch.TheVariants.{Struct as struct, List as list, Fixed as fixed}
+use Rattle.schema.specs.declared.kind.LeafKind.{LeafKind}
 use Rattle.leaf.specs.Bytes.{AreBytes}
 use Rattle.leaf.specs.Meaning.{fitting}
 use Rattle.leaf.specs.declared.layout.Layout.{Layout}
@@ -20,17 +23,17 @@ Fits l o = Present (λ bs. fitting l bs ≡ true) o
 
 -- the bytes of a text are UTF-8
 abbrev pub Lettered : LeafKind → Option (List ℕ) → Type 0
-Lettered (LeafKind.text wide) o = Present IsUtf8 o
-Lettered LeafKind.boolean o = Unit {0}
-Lettered LeafKind.null o = Unit {0}
-Lettered LeafKind.custom o = Unit {0}
+Lettered (LeafKind.Text wide) o = Present IsUtf8 o
+Lettered LeafKind.Boolean o = Unit {0}
+Lettered LeafKind.Null o = Unit {0}
+Lettered LeafKind.Custom o = Unit {0}
 
 -- a row has as many items as its branch takes
 abbrev pub Counted : {A : Type 0} → Branch → List A → Type 0
 Counted struct is = length is ≡ 1
 Counted (list view wide) is = Unit {0}
 Counted (fixed n) is = length is ≡ n
-Counted Branch.map is = Unit {0}
+Counted Branch.Map is = Unit {0}
 
 -- both hold of a value and of all within it
 abbrev mutual

@@ -2,7 +2,10 @@
 use Rattle.std.specs.Prelude.{◌≡◌, ℕ, Bool, true, false, not, ◌&&◌, ◌||◌, List, [], replicate}
 use Rattle.std.proofs.Math.Option.{Option, none, some}
 use Rattle.octets.specs.Lists.{is_some, or_else, all, rest, first}
-use Rattle.schema.specs.Tree.{Node, Fields, Field, Branch, LeafKind, branch, leaf, struct, list, fixed, ◌⊕◌, field_of, many}
+use Rattle.schema.specs.Tree.{Node, Fields, Field, branch, leaf, ◌⊕◌, field_of, many}
+use Rattle.schema.specs.declared.kind.Branch.{Branch}
+use Rattle.schema.specs.declared.kind.Branch.TheVariants.{Struct as struct, List as list, Fixed as fixed}
+use Rattle.schema.specs.declared.kind.LeafKind.{LeafKind}
 use Rattle.schema.specs.declared.settings.Settings.{Settings}
 use Rattle.tape.specs.Layout.{the, letter_at}
 use Rattle.tape.specs.View.{TapeView, element_at}
@@ -41,7 +44,7 @@ abbrev pub hides : Branch → ℕ
 hides struct = 1
 hides (list view wide) = 0
 hides (fixed n) = n
-hides Branch.map = 0
+hides Branch.Map = 0
 
 -- the items that have slots in the children
 abbrev pub taken : {A : Type 0} → Branch → A → Option (List A) → List A
@@ -56,7 +59,7 @@ abbrev pub below : Branch → Bool → Bool
 below struct inForce = inForce
 below (list view wide) inForce = false
 below (fixed n) inForce = false
-below Branch.map inForce = false
+below Branch.Map inForce = false
 
 -- null stays null, and a row has the value of each item
 abbrev pub inside : {A B : Type 0} → (A → Got B) → Option (List A) → Got (Option (List B))

@@ -4,13 +4,14 @@ ghost use Rattle.octets.specs.Numbers.{number_in};
 ghost use Rattle.slip.specs.Slips.{answer_of, then, got};
 ghost use Rattle.batch.specs.Format.{width};
 ghost use Rattle.batch.specs.Batch.{column_in, record_in};
-ghost use Rattle.batch.specs.Cells.{lying, leaf_cell, reach, slot_cell, triple};
+ghost use Rattle.batch.specs.Cells.{lying, leaf_cell, slot_cell, triple, numbers_of};
 
 use crate::record::{NodeRecord, bit_in, buffer_in, is_marked, number_in, record};
 use leaf::layout::Layout;
 use slip::Fault;
 
 // What is to be known of a node to read its slots: how they lead to its children, or how its values lie.
+// No `schema::kind::Branch`: a count of 16 bits, as records have it, times a slot never wraps, whatever the bytes are.
 #[derive(Clone, Copy)]
 pub enum Shape {
     Struct,
@@ -19,6 +20,34 @@ pub enum Shape {
     Fixed { count: u16 },
     Map,
     Leaf { layout: Layout, wide: bool },
+}
+
+// What stands in a slot.
+#[derive(Clone, Copy, PartialEq, Eq, Debug)]
+pub enum Content {
+    Null,
+    Bit(bool),
+    // Bytes of the page; none have place 0.
+    Bytes { place: usize, size: usize },
+    // Slots of the child, or of a map's key and value.
+    Items { first: usize, count: usize },
+    // One slot in each field.
+    Fields { slot: usize },
+}
+
+impl From<Content> for (u32, usize, usize) {
+    ghost from_gives = { λ c t. t ≡ triple (numbers_of c) };
+
+    // Its kind and two numbers: 0 null; 1 a bit; 2 bytes by place and size; 3 items by first slot and count; 4 fields by slot.
+    fn from(content: Content) -> (u32, usize, usize) {
+        match content {
+            Content::Null => (0, 0, 0),
+            Content::Bit(bit) => (1, usize::from(bit), 0),
+            Content::Bytes { place, size } => (2, place, size),
+            Content::Items { first, count } => (3, first, count),
+            Content::Fields { slot } => (4, slot, 0),
+        }
+    }
 }
 
 // How far it is from offset `j` to the next.
@@ -30,14 +59,11 @@ fn extent(offsets: &[u8], wide: bool, j: usize) -> usize
 }
 
 // Bytes of the page, with place 0 for none.
-fn bytes_at(place: usize, size: usize) -> (u32, usize, usize)
-    ensures { result ≡ triple (lying place size) }
+fn bytes_at(place: usize, size: usize) -> Content
+    ensures { numbers_of result ≡ lying place size }
 {
-    if size == 0 {
-        (2, 0, 0)
-    } else {
-        (2, place, size)
-    }
+    let place = if size == 0 { 0 } else { place };
+    Content::Bytes { place, size }
 }
 
 // A slot of a leaf that is not null; its values begin at `place` of the page.
@@ -48,14 +74,14 @@ fn leaf_cell(
     wide: bool,
     place: usize,
     slot: usize,
-) -> (u32, usize, usize)
+) -> Content
     requires { slot < 2 ^ 32 }
-    ensures { result ≡ triple (leaf_cell layout (width wide) place (column_in bytes.now node) slot) }
+    ensures { numbers_of result ≡ leaf_cell layout (width wide) place (column_in bytes.now node) slot }
 {
     let own = record(bytes, node);
     match layout {
-        Layout::None => (0, 0, 0),
-        Layout::Bit => (1, bit_in(buffer_in(bytes, own.values), slot) as usize, 0),
+        Layout::None => Content::Null,
+        Layout::Bit => Content::Bit(bit_in(buffer_in(bytes, own.values), slot)),
         Layout::Text => {
             let offsets = buffer_in(bytes, own.offsets);
             bytes_at(
@@ -67,52 +93,45 @@ fn leaf_cell(
     }
 }
 
-// What stands in a slot of a node, in a batch that begins at `base` of the page: 0 null; 1 a bit; 2 bytes by place and size;
-// 3 children by first slot and count; 4 fields by slot.
+// What stands in a slot of a node, in a batch that begins at `base` of the page.
 pub fn cell(
     bytes: &[u8],
     base: usize,
     shape: Shape,
     node: usize,
     slot: usize,
-) -> Result<(u32, usize, usize), Fault>
-    ensures { answer_of result ≡ then (slot_cell shape base bytes.now node slot) (λ c. got (triple c)) }
+) -> Result<Content, Fault>
+    ensures { then (answer_of result) (λ c. got (numbers_of c)) ≡ slot_cell shape base bytes.now node slot }
 {
     let own = record(bytes, node);
     if slot >= own.slots as usize {
         return Err(Fault::NotThere);
     }
     if !is_marked(buffer_in(bytes, own.validity), slot) {
-        return Ok((0, 0, 0));
+        return Ok(Content::Null);
     }
     let offsets = buffer_in(bytes, own.offsets);
     Ok(match shape {
-        Shape::Struct => (4, slot, 0),
-        Shape::List { wide } => (
-            3,
-            number_in(offsets, wide, slot),
-            extent(offsets, wide, slot),
-        ),
-        Shape::View { wide } => (
-            3,
-            number_in(offsets, wide, slot),
-            number_in(buffer_in(bytes, own.values), wide, slot),
-        ),
-        Shape::Fixed { count } => (3, count as usize * slot, count as usize),
-        Shape::Map => (
-            3,
-            number_in(offsets, false, slot),
-            extent(offsets, false, slot),
-        ),
+        Shape::Struct => Content::Fields { slot },
+        Shape::List { wide } => Content::Items {
+            first: number_in(offsets, wide, slot),
+            count: extent(offsets, wide, slot),
+        },
+        Shape::View { wide } => Content::Items {
+            first: number_in(offsets, wide, slot),
+            count: number_in(buffer_in(bytes, own.values), wide, slot),
+        },
+        Shape::Fixed { count } => Content::Items {
+            first: usize::from(count) * slot,
+            count: usize::from(count),
+        },
+        Shape::Map => Content::Items {
+            first: number_in(offsets, false, slot),
+            count: extent(offsets, false, slot),
+        },
         Shape::Leaf { layout, wide } => {
-            leaf_cell(
-                bytes,
-                node,
-                layout,
-                wide,
-                base.saturating_add(own.values.place as usize),
-                slot,
-            )
+            let place = base.saturating_add(own.values.place as usize);
+            leaf_cell(bytes, node, layout, wide, place, slot)
         }
     })
 }

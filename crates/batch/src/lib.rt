@@ -7,7 +7,7 @@ pub mod cell;
 pub mod record;
 
 // The laws of every batch.
-pub fn laws() -> u8
+pub fn laws()
     ensures format { BatchesInFormat }
     ensures filled { BatchesFilled }
     ensures spelled { BatchesSpelled }
@@ -16,6 +16,4 @@ pub fn laws() -> u8
     ensures same { SameBytes }
     ensures words { WholeWords }
     ensures bytes { AllBytes }
-{
-    0
-}
+{}

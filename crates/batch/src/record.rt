@@ -1,11 +1,12 @@
 // The record of a node in a batch, and the bytes that it points to. Whatever the bytes are, what lies past their end is read as zeros.
-ghost use Rattle.std.specs.Prelude.{◌≡◌, ◌^◌, ◌≤◌};
+ghost use Rattle.std.specs.Prelude.{◌≡◌, ◌^◌, ◌≤◌, if◌then◌else◌};
 ghost use Rattle.octets.specs.Lists.{part};
 ghost use Rattle.octets.specs.Numbers.{le_at, number_in, bitmap_bit};
 ghost use Rattle.batch.specs.Format.{width, is_marked};
 ghost use Rattle.batch.specs.Batch.{record_in, buffer_in};
 
-use octets::{copy_at, u32_at, u64_at};
+use octets::copy_at;
+use octets::word::Word;
 
 // Where a buffer lies, from the batch's start, and how many bytes it has.
 #[derive(Clone, Copy, PartialEq, Eq, Debug)]
@@ -35,22 +36,13 @@ pub(crate) fn cut(bytes: &[u8], place: usize, size: usize) -> &[u8]
     &rest[..to]
 }
 
-// The number in the four bytes from `at`.
-fn word_at(bytes: &[u8], at: usize) -> u32
-    ensures { result ≡ le_at 4 bytes.now at }
-{
-    let mut all = [0; 4];
-    copy_at(&mut all, 0, cut(bytes, at, 4));
-    u32_at(&all, 0)
-}
-
-// The number in the eight bytes from `at`.
-fn long_at(bytes: &[u8], at: usize) -> u64
-    ensures { result ≡ le_at 8 bytes.now at }
+// The number in the bytes from `at` on.
+fn word_at<W: Word>(bytes: &[u8], at: usize) -> W
+    ensures { W.value result ≡ le_at W.WIDTH bytes.now at }
 {
     let mut all = [0; 8];
-    copy_at(&mut all, 0, cut(bytes, at, 8));
-    u64_at(&all, 0)
+    copy_at(&mut all, 0, cut(bytes, at, W::WIDTH));
+    W::read_at(&all, 0)
 }
 
 // Number `j` of a buffer of numbers, of eight bytes each if they are wide, else of four.
@@ -59,28 +51,24 @@ pub(crate) fn number_in(bytes: &[u8], wide: bool, j: usize) -> usize
     ensures { result ≡ number_in (width wide) bytes.now j }
 {
     if wide {
-        long_at(bytes, 8 * j) as usize
+        word_at::<u64>(bytes, 8 * j) as usize
     } else {
-        word_at(bytes, 4 * j) as usize
+        word_at::<u32>(bytes, 4 * j) as usize
     }
 }
 
 // Bit `j` of a buffer of bits, the lowest of each byte first.
-pub(crate) fn bit_in(bytes: &[u8], j: usize) -> u8
-    ensures { result ≡ bitmap_bit bytes.now j }
+pub(crate) fn bit_in(bytes: &[u8], j: usize) -> bool
+    ensures { bitmap_bit bytes.now j ≡ (if result then 1 else 0) }
 {
-    if j / 8 < bytes.len() {
-        (bytes[j / 8] >> (j % 8)) % 2
-    } else {
-        0
-    }
+    j / 8 < bytes.len() && (bytes[j / 8] >> (j % 8)) % 2 == 1
 }
 
 // Whether slot `j` is valid by these bits; without any, every slot is.
 pub(crate) fn is_marked(bits: &[u8], j: usize) -> bool
     ensures { result ≡ is_marked bits.now j }
 {
-    bits.is_empty() || bit_in(bits, j) == 1
+    bits.is_empty() || bit_in(bits, j)
 }
 
 // The bytes of a buffer of a batch.

@@ -3,7 +3,7 @@
 
 #[cfg(test)]
 mod tests {
-    use batch::cell::{Shape, cell};
+    use batch::cell::{Content, Shape, cell};
     use batch::record::record;
     use leaf::layout::Layout;
     use slip::Fault;
@@ -72,23 +72,12 @@ mod tests {
         b
     }
 
-    fn answers(
-        r: Result<(u32, usize, usize), Fault>,
-        kind: u32,
-        first: usize,
-        second: usize,
-    ) -> bool {
-        match r {
-            Ok((k, f, s)) => k == kind && f == first && s == second,
-            Err(_) => false,
-        }
+    fn answers(r: Result<Content, Fault>, kind: u32, first: usize, second: usize) -> bool {
+        r.is_ok_and(|content| <(u32, usize, usize)>::from(content) == (kind, first, second))
     }
 
-    fn missing(r: Result<(u32, usize, usize), Fault>) -> bool {
-        match r {
-            Err(Fault::NotThere) => true,
-            _ => false,
-        }
+    fn missing(r: Result<Content, Fault>) -> bool {
+        r == Err(Fault::NotThere)
     }
 
     const TEXT: Shape = Shape::Leaf {

@@ -7,7 +7,7 @@ use Rattle.octets.specs.Lists.{splice, joined, or_else, starts, running, sum}
 use Rattle.octets.specs.Numbers.{le, padded, pad, numbers, packed, with_bit}
 use Rattle.octets.proofs.Pieces.{joined-append, length-starts, length-running, sum-take-le, length-pad}
 use Rattle.octets.proofs.Splices.{splice_nil}
-use Rattle.tape.specs.View.{TapeView}
+use Rattle.tape.specs.View.{TapeView, element_at}
 use Rattle.leaf.specs.Meaning.{Meaning, Answer, nothing, conflict, misfit, value, shown}
 use Rattle.leaf.specs.Replies.{reply_of}
 use Rattle.leaf.specs.declared.layout.Reply.TheVariants.{Value}
@@ -44,13 +44,10 @@ module _ (bs : List Bool) where
       let none' : length bs - length bs ≡ 0 = omega arith in
       e ∙ ap (λ t. pad (packed (filled (length bs) t))) (take_all i bs h) ∙ ap (λ k. pad (packed (bs ++ replicate k false))) none' ∙ ap (λ t. pad (packed t)) (append-nil bs)
 
--- the bit of a cell
-pub bit_here : (m : Meaning) (t : TapeView) (ps : List ℕ) (valid : Bool) (i : ℕ) → i < length ps → get_or (map (bit_of valid) (cells m t ps)) i false ≡ bit_of valid (cell_at m t (get_or ps i 0))
-bit_here m t ps valid i h =
-    get_or-map (bit_of valid) (cells m t ps) i none false (rw length-map h) ∙ ap (bit_of valid) (cell_here m t ps i h)
-
-pub bits_many : (m : Meaning) (t : TapeView) (ps : List ℕ) (valid : Bool) → length (map (bit_of valid) (cells m t ps)) ≡ length ps
-bits_many m t ps valid = length-map (cells m t ps) (bit_of valid) ∙ length-map ps (cell_at m t)
+-- the bits of cells
+pub cell_bits : (m : Meaning) (t : TapeView) (ps : List ℕ) (valid : Bool) → map (λ p. bit_of valid (shown (m.answer (element_at t p)))) ps ≡ map (bit_of valid) (cells m t ps)
+cell_bits m t [] valid = refl
+cell_bits m t (p ∷ ps) valid = ap (λ bs. bit_of valid (cell_at m t p) ∷ bs) (cell_bits m t ps valid)
 
 -- a write to the first of some zeros at the end
 splice_end : (P ys : List ℕ) (n i : ℕ) → i ≡ length P → length ys ≤ n → splice (P ++ replicate n 0) i ys ≡ (P ++ ys) ++ replicate (n - length ys) 0

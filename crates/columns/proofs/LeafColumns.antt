@@ -74,7 +74,7 @@ valid_long : (os : List Cell) (slots n : ℕ) → length os ≡ slots → nulls 
 valid_long os slots n e f = ap length (sym (marks-all slots n os e f)) ∙ bits_long slots n os (omega arith)
 
 -- the plan with bits, by layout
-abbrev marked_plan : (slots nulls offsets size : ℕ) → Plan
+abbrev pub marked_plan : (slots nulls offsets size : ℕ) → Plan
 marked_plan s n o d = record { slots = s; nulls = n; validity = bit_bytes s n; offsets = o; data_size = d }
 
 module _ (l : Layout) (w slots : ℕ) (seen : Seen) (p : Plan) (few : slots ≤ 2 ^ 24) where

@@ -1,21 +1,10 @@
 -- Columns written into the area of a batch.
-use Rattle.std.specs.Prelude.{◌≡◌, ℕ, ◌+◌, ◌-◌, ◌*◌, ◌^◌, ◌≤◌, true, false, cond, ◌||◌, List, length, drop, replicate, nat_lt}
+use Rattle.std.specs.Prelude.{◌≡◌, ℕ, ◌+◌, ◌-◌, ◌*◌, ◌^◌, ◌≤◌, cond, ◌||◌, List, length, drop, replicate, nat_lt}
 use Rattle.octets.specs.Lists.{splice}
 use Rattle.slip.specs.Slips.{slip, Got, refuse, got}
-use Rattle.schema.specs.Tree.{Branch, struct, list, fixed}
 use Rattle.batch.specs.Format.{Column}
 use Rattle.batch.specs.Batch.{size_of, records, buffers}
-use Rattle.columns.specs.declared.shape.Shape.{Shape}
-use Rattle.columns.specs.declared.shape.Shape.TheVariants.{Struct, ListOf, View, Fixed, Map}
 use Rattle.columns.specs.declared.plan.Plan.{Plan}
-
--- the branch of a shape
-abbrev pub branch_of : Shape → Branch
-branch_of Struct = struct
-branch_of (ListOf wide) = list false wide
-branch_of (View wide) = list true wide
-branch_of (Fixed count) = fixed count
-branch_of Map = Branch.map
 
 -- an area with these columns written: their records from a node's on, and their buffers from `top` on
 abbrev pub written : List ℕ → (node top : ℕ) → List Column → List ℕ

@@ -1,11 +1,11 @@
 -- The rows of a leaf, as its column is written.
-use Rattle.std.specs.Prelude.{◌≡◌, ℕ, ◌<◌, ◌≤◌, min, Bool, true, false, List, [], map, length, replicate, Result, MatchResult, ◌==◌, slice_index}
+use Rattle.std.specs.Prelude.{◌≡◌, ℕ, ◌≤◌, min, Bool, true, false, List, [], map, length, replicate, Result, MatchResult, ◌==◌, slice_index}
 use Rattle.std.proofs.Math.Option.{Option}
 use Rattle.std.specs.List.{AllByRecursion}
 use Rattle.slip.specs.declared.Fault.{Fault}
 use Rattle.slip.specs.Slips.{refuse, got, slip_of}
 use Rattle.octets.specs.Lists.{is_some, or_else, sum}
-use Rattle.tape.specs.View.{TapeView, element_at, is_position}
+use Rattle.tape.specs.View.{TapeView, element_at}
 use Rattle.leaf.specs.Meaning.{Meaning, shown}
 use Rattle.leaf.specs.declared.layout.Layout.{Layout}
 use Rattle.leaf.specs.declared.layout.Layout.TheVariants.{None, Bit, Text, Eight}
@@ -14,10 +14,6 @@ use Rattle.columns.specs.Entering.{answers}
 use Rattle.columns.specs.Plans.{Totals}
 use Rattle.columns.specs.declared.plan.Plan.{Plan}
 use Rattle.columns.specs.declared.scan.Seen.{Seen}
-
--- every entry is a position
-abbrev pub Positions : TapeView → List ℕ → Type 0
-Positions t ps = (i : ℕ) → i < length ps → is_position t (slice_index ps i) ≡ true
 
 -- null or the bytes of the value at a position
 abbrev pub cell_at : Meaning → TapeView → ℕ → Option (List ℕ)

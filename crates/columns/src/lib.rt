@@ -6,7 +6,6 @@ mod leaves;
 pub mod offset;
 pub mod plan;
 mod scan;
-pub mod shape;
 pub mod spans;
 
 pub use leaves::put_leaf;

@@ -4,22 +4,22 @@ ghost use Rattle.octets.specs.Lists.{splice};
 ghost use Rattle.octets.specs.Numbers.{le};
 ghost use Rattle.std.proofs.Common.{rules};
 
-use octets::{put_u32, put_u64};
+use octets::word::Word;
 
 // A signed number of 4 or 8 bytes that a count is stored as.
+// Each width has its own three lines: std's conversions belong to each type by itself, and are in no trait.
 pub trait OffsetSize: Copy {
-    ghost width: { ℕ };
+    // How many bytes a number takes.
+    const WIDTH: usize;
+
+    ghost WIDTH: { ℕ };
 
     // Holds of a number and the count that it stands for.
     ghost counts: { Self → ℕ → Type 0 };
 
-    // How many bytes a number takes.
-    fn width() -> usize
-        ensures { result ≡ width };
-
     // The number that stands for `n`, where `n` is within range.
     fn from_usize(n: usize) -> Option<Self>
-        ensures within { is_some result ≡ nat_lt n (2 ^ (8 * width - 1)) }
+        ensures within { is_some result ≡ nat_lt n (2 ^ (8 * WIDTH - 1)) }
         ensures value { IfSome result (λ o. counts o n) };
 
     // The count that it stands for.
@@ -28,16 +28,18 @@ pub trait OffsetSize: Copy {
 
     // Writes it into the bytes from `at` on.
     fn put(self, out: &mut [u8], at: usize)
-        requires { at + width ≤ length out.old }
-        ensures { (n : ℕ) → counts self n → out.new ≡ splice out.old at (le width n) };
+        requires { at + WIDTH ≤ length out.old }
+        ensures { (n : ℕ) → counts self n → out.new ≡ splice out.old at (le WIDTH n) };
 
-    ghost wide: { 2 ^ 31 ≤ 2 ^ (8 * width - 1) };
+    ghost wide: { 2 ^ 31 ≤ 2 ^ (8 * WIDTH - 1) };
 
-    ghost short: { width ≤ 8 };
+    ghost short: { WIDTH ≤ 8 };
 }
 
 impl OffsetSize for i32 {
-    ghost width = { 4 };
+    const WIDTH: usize = 4;
+
+    ghost WIDTH = { 4 };
 
     ghost counts = { λ z n. z ≡ pos n };
 
@@ -45,16 +47,8 @@ impl OffsetSize for i32 {
 
     ghost short = { Prim.search rules };
 
-    fn width() -> usize {
-        4
-    }
-
     fn from_usize(n: usize) -> Option<i32> {
-        if n < 0x8000_0000 {
-            Some(n as i32)
-        } else {
-            None
-        }
+        i32::try_from(n).ok()
     }
 
     fn as_usize(self) -> usize {
@@ -62,12 +56,14 @@ impl OffsetSize for i32 {
     }
 
     fn put(self, out: &mut [u8], at: usize) {
-        put_u32(out, at, self.cast_unsigned());
+        self.cast_unsigned().write_at(out, at);
     }
 }
 
 impl OffsetSize for i64 {
-    ghost width = { 8 };
+    const WIDTH: usize = 8;
+
+    ghost WIDTH = { 8 };
 
     ghost counts = { λ z n. z ≡ pos n };
 
@@ -75,16 +71,8 @@ impl OffsetSize for i64 {
 
     ghost short = { Prim.search rules };
 
-    fn width() -> usize {
-        8
-    }
-
     fn from_usize(n: usize) -> Option<i64> {
-        if n < 0x8000_0000_0000_0000 {
-            Some(n as i64)
-        } else {
-            None
-        }
+        i64::try_from(n).ok()
     }
 
     fn as_usize(self) -> usize {
@@ -92,13 +80,13 @@ impl OffsetSize for i64 {
     }
 
     fn put(self, out: &mut [u8], at: usize) {
-        put_u64(out, at, self.cast_unsigned());
+        self.cast_unsigned().write_at(out, at);
     }
 }
 
 // A count within range survives conversion and back.
 pub fn there_and_back<O: OffsetSize>(n: usize) -> usize
-    requires { n < 2 ^ (8 * O.OffsetSize.width - 1) }
+    requires { n < 2 ^ (8 * O.OffsetSize.WIDTH - 1) }
     ensures { result ≡ n }
 {
     O::from_usize(n).unwrap().as_usize()
@@ -106,9 +94,9 @@ pub fn there_and_back<O: OffsetSize>(n: usize) -> usize
 
 // Writes a count of no more than 31 bits.
 pub fn put_count<O: OffsetSize>(out: &mut [u8], at: usize, n: usize)
-    requires place { at + O.OffsetSize.width ≤ length out.old }
+    requires place { at + O.OffsetSize.WIDTH ≤ length out.old }
     requires small { n < 2 ^ 31 }
-    ensures { out.new ≡ splice out.old at (le O.OffsetSize.width n) }
+    ensures { out.new ≡ splice out.old at (le O.OffsetSize.WIDTH n) }
 {
     O::from_usize(n).unwrap().put(out, at);
 }

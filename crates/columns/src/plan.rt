@@ -8,7 +8,7 @@ ghost use Rattle.batch.specs.Batch.{lying_at, record_of};
 ghost use Rattle.columns.specs.Areas.{Plans, space};
 ghost use Rattle.columns.specs.Plans.{Totals, Recordable};
 
-use octets::put_u32;
+use octets::word::Word;
 use slip::Fault;
 
 // What a column takes: its slots, its nulls, and the bytes of its three buffers.
@@ -26,15 +26,7 @@ pub fn round_up(n: usize) -> usize
     requires { n < 2 ^ 40 }
     ensures { result ≡ padded n }
 {
-    (n + 7) / 8 * 8
-}
-
-// The bytes of a bit for each slot, where any is null.
-pub fn bits_size(slots: usize, nulls: usize) -> usize
-    requires { slots ≤ 2 ^ 24 }
-    ensures { result ≡ (if nat_lt 0 nulls then (slots + 7) / 8 else 0) }
-{
-    if nulls > 0 { (slots + 7) / 8 } else { 0 }
+    n.next_multiple_of(8)
 }
 
 // Writes where a buffer lies and how long it is; an empty one has place 0.
@@ -44,11 +36,25 @@ fn put_buffer(area: &mut [u8], at: usize, place: usize, size: usize)
     ensures { area.new ≡ splice area.old at (le 4 (lying_at place size) ++ le 4 size) }
 {
     let lies = if size == 0 { 0 } else { place as u32 };
-    put_u32(area, at, lies);
-    put_u32(area, at + 4, size as u32);
+    lies.write_at(area, at);
+    (size as u32).write_at(area, at + 4);
 }
 
 impl Plan {
+    // A plan of a bit for each slot, where any is null.
+    pub fn new(slots: usize, nulls: usize, offsets: usize, data_size: usize) -> Plan
+        requires { slots ≤ 2 ^ 24 }
+        ensures { result ≡ record { slots = slots; nulls = nulls; validity = (if nat_lt 0 nulls then (slots + 7) / 8 else 0); offsets = offsets; data_size = data_size } }
+    {
+        Plan {
+            slots,
+            nulls,
+            validity: if nulls > 0 { slots.div_ceil(8) } else { 0 },
+            offsets,
+            data_size,
+        }
+    }
+
     // The place behind the buffers from `top` on, where a page of `free` bytes has room for them, and a work list has `left` entries for so many positions.
     pub fn end(
         self,
@@ -81,8 +87,8 @@ impl Plan {
         let at = 32 * node;
         let offsets = top + round_up(self.validity);
         let values = offsets + round_up(self.offsets);
-        put_u32(area, at, self.slots as u32);
-        put_u32(area, at + 4, self.nulls as u32);
+        (self.slots as u32).write_at(area, at);
+        (self.nulls as u32).write_at(area, at + 4);
         put_buffer(area, at + 8, top, self.validity);
         put_buffer(area, at + 16, offsets, self.offsets);
         put_buffer(area, at + 24, values, self.data_size);

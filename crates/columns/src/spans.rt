@@ -9,19 +9,19 @@ ghost use Rattle.std.specs.Prelude.{◌≡◌, ◌+◌, ◌/◌, ◌^◌, ◌<�
 ghost use Rattle.octets.specs.Lists.{is_some};
 ghost use Rattle.octets.specs.Numbers.{with_bit};
 ghost use Rattle.batch.specs.Batch.{branch_column, buffers, nulls as nulls_of};
-ghost use Rattle.columns.specs.Areas.{branch_of, Plans};
+ghost use Rattle.columns.specs.Areas.{Plans};
 ghost use Rattle.columns.specs.Plans.{bytes_of};
-ghost use Rattle.columns.specs.Spans.{Row, begun, Laid, Begun, Suits, Counted, Closes};
+ghost use Rattle.columns.specs.Spans.{Row, begun, is_ended, is_view, Laid, Begun, Suits, Counted, Closes};
 
 use crate::offset::{OffsetSize, put_count};
-use crate::plan::{Plan, bits_size, round_up};
-use crate::shape::Shape;
+use crate::plan::{Plan, round_up};
 use octets::set_bit;
+use schema::kind::Branch;
 
 // The column of a branch that is written row by row.
 #[derive(Clone, Copy)]
 pub struct Spans {
-    pub shape: Shape,
+    pub branch: Branch,
     pub plan: Plan,
 }
 
@@ -39,47 +39,56 @@ fn put_bit(out: &mut [u8], nulls: usize, slot: usize, valid: bool)
 fn offset_size(wide: bool) -> usize
     ensures { result ≡ (if wide then 8 else 4) }
 {
-    if wide { 8 } else { 4 }
+    if wide { i64::WIDTH } else { i32::WIDTH }
 }
 
-fn offsets_size(shape: Shape, slots: usize) -> usize
-    requires { slots ≤ 2 ^ 24 }
-    ensures { result ≡ length (begun (branch_of shape) slots 0 []).offsets }
+// Whether a last offset says where the items of all rows end.
+fn is_ended(branch: Branch) -> bool
+    ensures { result ≡ is_ended branch }
 {
-    match shape {
-        Shape::Struct | Shape::Fixed { .. } => 0,
-        Shape::ListOf { wide } => offset_size(wide) * (slots + 1),
-        Shape::View { wide } => offset_size(wide) * slots,
-        Shape::Map => 4 * (slots + 1),
+    matches!(branch, Branch::List { view: false, .. } | Branch::Map)
+}
+
+// Whether each row has a size beside its offset.
+fn is_view(branch: Branch) -> bool
+    ensures { result ≡ is_view branch }
+{
+    matches!(branch, Branch::List { view: true, .. })
+}
+
+fn offsets_size(branch: Branch, slots: usize) -> usize
+    requires { slots ≤ 2 ^ 24 }
+    ensures { result ≡ length (begun branch slots 0 []).offsets }
+{
+    match branch {
+        Branch::Struct | Branch::Fixed { .. } => 0,
+        Branch::List { view: false, wide } => offset_size(wide) * (slots + 1),
+        Branch::List { view: true, wide } => offset_size(wide) * slots,
+        Branch::Map => 4 * (slots + 1),
     }
 }
 
-fn sizes_size(shape: Shape, slots: usize) -> usize
+fn sizes_size(branch: Branch, slots: usize) -> usize
     requires { slots ≤ 2 ^ 24 }
-    ensures { result ≡ length (begun (branch_of shape) slots 0 []).bytes }
+    ensures { result ≡ length (begun branch slots 0 []).bytes }
 {
-    match shape {
-        Shape::View { wide } => offset_size(wide) * slots,
+    match branch {
+        Branch::List { view: true, wide } => offset_size(wide) * slots,
         _ => 0,
     }
 }
 
 impl Spans {
     // The spans of so many rows, of which so many are null.
-    pub fn new(shape: Shape, slots: usize, nulls: usize) -> Spans
+    pub fn new(branch: Branch, slots: usize, nulls: usize) -> Spans
         requires { slots ≤ 2 ^ 24 }
         ensures laid { Laid result }
-        ensures same { (result.shape ≡ shape) × ((result.plan.slots ≡ slots) × (result.plan.nulls ≡ nulls)) }
-        ensures plans { (os : List Row) → length os ≡ slots → nulls_of os ≡ nulls → Plans result.plan (branch_column (branch_of shape) os) }
+        ensures same { (result.branch ≡ branch) × ((result.plan.slots ≡ slots) × (result.plan.nulls ≡ nulls)) }
+        ensures plans { (os : List Row) → length os ≡ slots → nulls_of os ≡ nulls → Plans result.plan (branch_column branch os) }
     {
-        let plan = Plan {
-            slots,
-            nulls,
-            validity: bits_size(slots, nulls),
-            offsets: offsets_size(shape, slots),
-            data_size: sizes_size(shape, slots),
-        };
-        Spans { shape, plan }
+        let offsets = offsets_size(branch, slots);
+        let plan = Plan::new(slots, nulls, offsets, sizes_size(branch, slots));
+        Spans { branch, plan }
     }
 
     // Writes a row behind those that are written: its bit, and where its items begin and how many there are.
@@ -92,46 +101,34 @@ impl Spans {
         size: usize,
     )
         requires laid { Laid self }
-        requires suits { Suits O.OffsetSize.width (branch_of self.shape) }
+        requires suits { Suits O.OffsetSize.WIDTH self.branch }
         requires long { length out.old ≡ bytes_of self.plan }
         requires within { row < self.plan.slots }
         requires small { (start < 2 ^ 31) × (size < 2 ^ 31) }
-        ensures { (os : List Row) (o : Row) → Begun self out.old os → length os ≡ row → is_some o ≡ valid → Counted (branch_of self.shape) os o start size → Begun self out.new (os ++ (o ∷ [])) }
+        ensures { (os : List Row) (o : Row) → Begun self out.old os → length os ≡ row → is_some o ≡ valid → Counted self.branch os o start size → Begun self out.new (os ++ (o ∷ [])) }
     {
         put_bit(out, self.plan.nulls, row, valid);
         let place = round_up(self.plan.validity);
-        match self.shape {
-            Shape::Struct | Shape::Fixed { .. } => {}
-            Shape::ListOf { .. } | Shape::Map => put_count::<O>(
-                out,
-                place + O::width() * row,
-                start,
-            ),
-            Shape::View { .. } => {
-                put_count::<O>(out, place + O::width() * row, start);
-                let sizes = place + round_up(self.plan.offsets);
-                put_count::<O>(out, sizes + O::width() * row, size);
-            }
+        if is_ended(self.branch) {
+            put_count::<O>(out, place + O::WIDTH * row, start);
+        } else if is_view(self.branch) {
+            put_count::<O>(out, place + O::WIDTH * row, start);
+            let sizes = place + round_up(self.plan.offsets);
+            put_count::<O>(out, sizes + O::WIDTH * row, size);
         }
     }
 
     // Writes what stands behind all rows: where the last items of a list or a map end.
     pub fn close<O: OffsetSize>(self, out: &mut [u8], items: usize)
         requires laid { Laid self }
-        requires suits { Suits O.OffsetSize.width (branch_of self.shape) }
+        requires suits { Suits O.OffsetSize.WIDTH self.branch }
         requires long { length out.old ≡ bytes_of self.plan }
         requires small { items < 2 ^ 31 }
-        ensures { (os : List Row) → Begun self out.old os → length os ≡ self.plan.slots → nulls_of os ≡ self.plan.nulls → Closes (branch_of self.shape) os items → out.new ≡ buffers (branch_column (branch_of self.shape) os ∷ []) }
+        ensures { (os : List Row) → Begun self out.old os → length os ≡ self.plan.slots → nulls_of os ≡ self.plan.nulls → Closes self.branch os items → out.new ≡ buffers (branch_column self.branch os ∷ []) }
     {
-        match self.shape {
-            Shape::ListOf { .. } | Shape::Map => {
-                put_count::<O>(
-                    out,
-                    round_up(self.plan.validity) + O::width() * self.plan.slots,
-                    items,
-                )
-            }
-            Shape::Struct | Shape::View { .. } | Shape::Fixed { .. } => {}
+        if is_ended(self.branch) {
+            let end = round_up(self.plan.validity) + O::WIDTH * self.plan.slots;
+            put_count::<O>(out, end, items);
         }
     }
 }

@@ -15,7 +15,7 @@ use Rattle.tape.proofs.Walks.{steps_ahead, pairs_ahead, onward_none, onward_more
 use Rattle.explain.specs.Laws.{NeverCut}
 use Rattle.explain.specs.Nested.{nested, element_text}
 use Rattle.explain.proofs.Depths.{begins}
-use Rattle.explain.proofs.Walks.{text_at}
+use Rattle.explain.proofs.Elements.{text_at}
 
 -- an element with no brackets has no entries to show
 nested-plain : (e : Elem) (xs ys : List (List ℕ)) → (e ≡ Elem.object → ⊥) → (e ≡ Elem.list → ⊥) → nested e xs ≡ nested e ys

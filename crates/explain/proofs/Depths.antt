@@ -1,7 +1,7 @@
 -- At each position of an opened tape a value begins in which at most 64 brackets are open together.
 use Rattle.std.proofs.Common.{◌≡◌, ℕ, zero, suc, ◌-◌, ◌<◌, ◌≤◌, true, List, ap, ◌∙◌, subst, arith}
 use native.Mathlib.Decide.{dec_lt}
-use Rattle.tape.specs.Layout.{letter_at}
+use Rattle.tape.specs.Layout.{letter_at, offset_count}
 use Rattle.tape.specs.Grammar.{Value, Values, Pairs}
 use Rattle.tape.specs.Grammar.Leaf.{string, null}
 use Rattle.tape.specs.Grammar.Value.{leaf, i64, list, object}
@@ -10,7 +10,6 @@ use Rattle.tape.specs.Grammar.Pairs.{no_pair, pair}
 use Rattle.tape.specs.Opens.{Untorn}
 use Rattle.tape.specs.View.{TapeView, is_position}
 use Rattle.tape.proofs.Walks.{Valid, position_valid}
-use Rattle.explain.specs.Puts.{Begins}
 
 -- more brackets may be open than are
 mutual
@@ -78,6 +77,10 @@ mutual
           | no n ↦ pairs-inside ps e x h v (omega arith) b
         ]
       ]
+
+-- a value begins at p, in which at most so many brackets are open together
+abbrev pub Begins : TapeView → (depth p : ℕ) → Type 0
+Begins t depth p = (q : ℕ) × Value t.elements (offset_count t.offsets) depth p q
 
 pub begins : {t : TapeView} → Untorn t → (p : ℕ) → is_position t p ≡ true → Begins t 64 p
 begins o zero h = (1, leaf (null o.first o.first_number))

@@ -2,33 +2,47 @@
 use Rattle.std.proofs.Common.{◌≡◌, ℕ, ◌+◌, ◌≤◌, List, [], ◌++◌, length, sym, refl, ap, ◌∙◌, subst, arith, length-append}
 use Rattle.octets.specs.Lists.{splice}
 use Rattle.octets.proofs.Splices.{splice_nil, splice_join}
-use Rattle.explain.specs.Puts.{Puts, most}
+use Rattle.explain.specs.declared.writer.Writer.{Writer}
+use Rattle.explain.specs.Puts.{Sized, Puts, PutsAll, most}
 
-pub puts_none : (at : ℕ) (area : List ℕ) → at ≤ most → length area ≤ most → Puts at [] area area at
-puts_none at area h k = record { sized = k; kept = refl; counted = omega arith; placed = λ _. sym (splice_nil area at) }
+pub puts_none : (w : Writer) → Puts [] w w
+puts_none w = record { lent = refl; kept = refl; counted = λ s. omega (arith, s.count); placed = λ s h. sym (splice_nil w.area.now w.len) }
 
-pub puts_join : {at m n : ℕ} {xs ys a b c : List ℕ} → Puts at xs a b m → Puts m ys b c n → Puts at (xs ++ ys) a c n
-puts_join {at} {m} {n} {xs} {ys} {a} {b} {c} p q = record {
-  sized = p.sized;
+-- the numbers stay those of a machine
+sized_after : {xs : List ℕ} {w v : Writer} → Puts xs w v → Sized w → Sized v
+sized_after p s = record { count = omega (arith, p.counted s); room = omega (arith, p.kept, s.room) }
+
+pub puts_join : {xs ys : List ℕ} {u v w : Writer} → Puts xs u v → Puts ys v w → Puts (xs ++ ys) u w
+puts_join {xs} {ys} {u} {v} {w} p q = record {
+  lent = q.lent ∙ p.lent;
   kept = q.kept ∙ p.kept;
-  counted = rw (length-append xs ys) (omega (arith, p.counted, q.counted));
-  placed = λ h.
+  counted = λ s. rw (length-append xs ys) (omega (arith, p.counted s, q.counted (sized_after p s)));
+  placed = λ s h.
       let l = length-append xs ys in
-      let e : m ≡ at + length xs = omega (arith, p.sized, p.counted) in
-      let f : b ≡ splice a at xs = p.placed (omega arith) in
-      let g : c ≡ splice b m ys = q.placed (omega (arith, p.kept)) in
-      g ∙ ap (λ k. splice b k ys) e ∙ ap (λ z. splice z (at + length xs) ys) f ∙ splice_join a at xs ys (omega arith);
+      let e : v.len ≡ u.len + length xs = omega (arith, s.room, p.counted s) in
+      let f : v.area.now ≡ splice u.area.now u.len xs = p.placed s (omega arith) in
+      let g : w.area.now ≡ splice v.area.now v.len ys = q.placed (sized_after p s) (omega (arith, p.kept)) in
+      g ∙ ap (λ k. splice v.area.now k ys) e ∙ ap (λ z. splice z (u.len + length xs) ys) f ∙ splice_join u.area.now u.len xs ys (omega arith);
 }
 
--- what is left to put, at a place of an area as it is now, leads to the whole
-pub record Leads (at : ℕ) (whole before : List ℕ) (to : ℕ) (left so_far : List ℕ) : Type 0 where
-  pub ends : {after : List ℕ} {n : ℕ} → Puts to left so_far after n → Puts at whole before after n
+pub puts_as : {xs ys : List ℕ} {u v : Writer} → xs ≡ ys → Puts xs u v → Puts ys u v
+puts_as {u = u} {v = v} e p = subst (λ z. Puts z u v) e p
 
-pub leads-all : (at : ℕ) (whole area : List ℕ) → Leads at whole area at whole area
-leads-all at whole area = record { ends = λ p. p }
+-- what is left to put, after what was put so far, leads to the whole
+pub record Leads (whole : List ℕ) (before : Writer) (left : List ℕ) (now : Writer) : Type 0 where
+  pub ends : {after : Writer} → Puts left now after → Puts whole before after
 
-pub leads_more : {at m n : ℕ} {whole before xs ys b c : List ℕ} → Leads at whole before m (xs ++ ys) b → Puts m xs b c n → Leads at whole before n ys c
-leads_more l p = record { ends = λ q. l.ends (puts_join p q) }
+pub leads-all : {whole left : List ℕ} {before : Writer} → left ≡ whole → Leads whole before left before
+leads-all e = record { ends = λ p. puts_as e p }
 
-pub puts_as : {at n : ℕ} {xs ys a b : List ℕ} → xs ≡ ys → Puts at xs a b n → Puts at ys a b n
-puts_as {at} {n} {a = a} {b = b} e p = subst (λ z. Puts at z a b n) e p
+pub leads_more : {whole xs ys zs : List ℕ} {before u v : Writer} → Leads whole before zs u → zs ≡ xs ++ ys → Puts xs u v → Leads whole before ys v
+leads_more l e p = record { ends = λ q. l.ends (puts_as (sym e) (puts_join p q)) }
+
+-- from an area in which nothing was put to what it is when the writer is gone
+pub puts_all : {xs before after : List ℕ} {u v : Writer} {n : ℕ} → Puts xs u v → u.area.now ≡ before → u.len ≡ 0 → length before ≤ most → n ≡ v.len → after ≡ v.area.now → PutsAll xs before after n
+puts_all {xs} {before} {after} {u} {v} {n} p a z m e f =
+    let s : Sized u = record { count = omega arith; room = omega (arith, ap length a) } in
+    record {
+      counted = omega (arith, p.counted s);
+      placed = λ h. f ∙ p.placed s (omega (arith, ap length a)) ∙ ap (λ k. splice k u.len xs) a ∙ ap (λ i. splice before i xs) z;
+    }

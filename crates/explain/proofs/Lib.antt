@@ -1,7 +1,6 @@
 pub mod Joins
 pub mod Depths
-pub mod Walks
+pub mod Elements
 pub mod Cuts
-pub mod Words
-pub mod Ways
 pub mod Texts
+pub mod Ways

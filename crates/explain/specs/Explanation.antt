@@ -1,5 +1,5 @@
 -- The text of a fault.
-use Rattle.std.specs.Prelude.{◌≡◌, ℕ, Bool, false, cond, ◌&&◌, List, [], ◌++◌, length, codes, decimal, Result, ◌==◌, nat_le, nat_lt}
+use Rattle.std.specs.Prelude.{◌≡◌, ℕ, Bool, true, false, cond, ◌&&◌, List, [], ◌++◌, length, codes, decimal, Result, nat_le, nat_lt}
 use Rattle.slip.specs.declared.Fault.{Fault}
 use Rattle.slip.specs.declared.Fault.TheVariants.{TornTape, BadSchema, BadPosition, Full, WrongKind, UnknownColumn, ExtraColumn, FewColumns, WrongCount, BareNull, Misfit, NotThere}
 use Rattle.slip.specs.Slips.{Slip, Got, refuse, got, slip, slip_of, not_there, answer_of, then}
@@ -7,20 +7,34 @@ use Rattle.octets.specs.Lists.{splice}
 use Rattle.tape.specs.Layout.{the}
 use Rattle.tape.specs.View.{TapeView, is_at, words_at, entries, is_position}
 use Rattle.schema.specs.declared.settings.Settings.{Settings}
-use Rattle.schema.specs.Held.{letter_of, count_of}
-use Rattle.schema.specs.Tree.{LeafKind, text, boolean, custom, Branch, struct, list, fixed, Node, branch, leaf, nodes, node_at}
+use Rattle.schema.specs.declared.kind.Kind.{Kind}
+use Rattle.schema.specs.declared.kind.Kind.TheVariants.{Branch as a_branch, Leaf as a_leaf}
+use Rattle.schema.specs.declared.kind.Branch.{Branch}
+use Rattle.schema.specs.declared.kind.Branch.TheVariants.{Struct as struct, List as list, Fixed as fixed}
+use Rattle.schema.specs.declared.kind.LeafKind.{LeafKind}
+use Rattle.schema.specs.declared.kind.LeafKind.TheVariants.{Text as text, Boolean as boolean, Custom as custom}
+use Rattle.schema.specs.Held.{count_of}
+use Rattle.schema.specs.Tree.{Node, branch, leaf, kind_of, nodes, node_at}
 use Rattle.explain.specs.Nested.{whole_text}
-use Rattle.explain.specs.Way.{way_to}
+use Rattle.explain.specs.Way.{is_struct, way_to}
+
+-- whether a node of this kind is a fixed-size list
+abbrev pub is_fixed : Kind → Bool
+is_fixed (a_branch struct) = false
+is_fixed (a_branch (list view wide)) = false
+is_fixed (a_branch (fixed n)) = true
+is_fixed (a_branch Branch.Map) = false
+is_fixed (a_leaf k) = false
 
 -- the word for what a node wants; own is the word of the custom leaf
 abbrev pub word_of : Settings → (own : List ℕ) → Node → List ℕ
 word_of s own (branch f struct cs) = cond s.list_rows (codes "[") (codes "{")
 word_of s own (branch f (list view wide) cs) = codes "["
 word_of s own (branch f (fixed n) cs) = codes "["
-word_of s own (branch f Branch.map cs) = codes "{"
+word_of s own (branch f Branch.Map cs) = codes "{"
 word_of s own (leaf f (text wide)) = codes "string"
 word_of s own (leaf f boolean) = codes "boolean"
-word_of s own (leaf f LeafKind.null) = codes "null"
+word_of s own (leaf f LeafKind.Null) = codes "null"
 word_of s own (leaf f custom) = own
 
 -- the sentence of each fault that has one
@@ -47,9 +61,9 @@ module _ (root : Node) (t : TapeView) where
   abbrev pub there : (node p : ℕ) → Bool
   there node p = nat_lt node (length (nodes root)) && is_position t p
 
-  -- and the node has this letter
-  abbrev pub of_kind : (letter node p : ℕ) → Bool
-  of_kind letter node p = there node p && letter_of (node_at root node) == letter
+  -- and the node is of such a kind
+  abbrev pub of_kind : (is : Kind → Bool) → (node p : ℕ) → Bool
+  of_kind is node p = there node p && is (kind_of (node_at root node))
 
   -- a fault of a kind that has a text, at a node and an element that can have it
   abbrev pub fits : Fault → Bool
@@ -58,10 +72,10 @@ module _ (root : Node) (t : TapeView) where
   fits (BadPosition index) = false
   fits (Full node) = false
   fits (WrongKind node p) = there node p
-  fits (UnknownColumn node p) = of_kind (the "S") node p && is_at t (the "s") p
-  fits (ExtraColumn node p) = of_kind (the "S") node p
-  fits (FewColumns node p) = of_kind (the "S") node p && is_at t (the "[") p
-  fits (WrongCount node p) = of_kind (the "F") node p && is_at t (the "[") p
+  fits (UnknownColumn node p) = of_kind is_struct node p && is_at t (the "s") p
+  fits (ExtraColumn node p) = of_kind is_struct node p
+  fits (FewColumns node p) = of_kind is_struct node p && is_at t (the "[") p
+  fits (WrongCount node p) = of_kind is_fixed node p && is_at t (the "[") p
   fits (BareNull child slot) = false
   fits (Misfit node p) = false
   fits NotThere = false

@@ -4,3 +4,4 @@ pub mod Laws
 pub mod Explanation
 pub mod Puts
 pub mod Toward
+pub mod Said

@@ -1,55 +1,55 @@
 // The prefixes of a text: the way from the root to a node.
-ghost use Rattle.std.specs.Prelude.{◌<◌};
-ghost use Rattle.schema.specs.Opened.{Opened, TreeOf, NodeOf, size_of};
-ghost use Rattle.schema.specs.Tree.{Node};
+ghost use Rattle.schema.specs.Opened.{TreeOf, NodeOf, size_of};
+ghost use Rattle.schema.specs.Tree.{Node, kind_of};
+ghost use Rattle.std.specs.Prelude.{◌≡◌, ◌<◌};
 ghost use Rattle.explain.specs.Puts.{Puts};
+ghost use Rattle.explain.specs.Toward.{Toward};
 ghost use Rattle.explain.specs.Way.{is_struct, step_into, way_to};
-ghost use Rattle.explain.specs.Toward.{Holds, Toward};
 
-use crate::put::put;
+use crate::writer::Writer;
 use schema::Schema;
+use schema::kind::{Branch, Kind};
+
+// Whether a node of this kind is a struct.
+pub(crate) fn is_struct(kind: Kind) -> bool
+    ensures { result ≡ is_struct kind }
+{
+    matches!(kind, Kind::Branch(Branch::Struct))
+}
 
 // The child of node `parent` that is node `node` or stands above it.
-fn toward(schema: Schema, parent: usize, node: usize) -> usize
-    requires opened { Opened schema }
-    requires holding { Holds schema parent node }
-    requires below { parent < node }
-    ensures { Toward schema.entry parent node result }
+fn toward(schema: Schema, parent: usize, node: usize) -> Option<usize>
+    requires { parent < size_of schema }
+    ensures { (t : Node) → NodeOf schema.entry parent t → Toward schema.entry parent t node result }
 {
-    let mut child = parent + 1;
-    while schema.end(child) <= node {
-        child = schema.end(child);
+    for child in schema.children(parent) {
+        if (child..schema.end(child)).contains(&node) {
+            return Some(child);
+        }
     }
-    child
+    None
 }
 
 // Puts the step from node `parent` into its child, which has a text if the parent is a struct.
-fn put_step(out: &mut [u8], at: usize, schema: Schema, parent: usize, child: usize) -> usize
-    requires opened { Opened schema }
+fn put_step(w: &mut Writer, schema: Schema, parent: usize, child: usize)
     requires parents { parent < size_of schema }
     requires children { child < size_of schema }
-    ensures { (t c : Node) → NodeOf schema.entry parent t → NodeOf schema.entry child c → Puts at (step_into (is_struct t) c) out.old out.new result }
+    ensures { (t c : Node) → NodeOf schema.entry parent t → NodeOf schema.entry child c → Puts (step_into (is_struct (kind_of t)) c) w.old w.new }
 {
-    if schema.letter(parent) != 'S' {
-        return at;
+    if is_struct(schema.kind(parent)) {
+        w.put(b"whilst decoding field '");
+        w.put(schema.name(child));
+        w.put(b"': ");
     }
-    let to = put(out, at, b"whilst decoding field '");
-    let to = put(out, to, schema.name(child));
-    put(out, to, b"': ")
 }
 
 // Puts the steps from the root to node `node`.
-pub(crate) fn put_way(out: &mut [u8], at: usize, schema: Schema, node: usize) -> usize
-    requires opened { Opened schema }
-    requires within { node < size_of schema }
-    ensures { (root : Node) → TreeOf schema.entry root → Puts at (way_to node root) out.old out.new result }
+pub(crate) fn put_way(w: &mut Writer, schema: Schema, node: usize)
+    ensures { (root : Node) → TreeOf schema.entry root → Puts (way_to node root) w.old w.new }
 {
-    let mut to = at;
     let mut parent = 0;
-    while parent < node {
-        let child = toward(schema, parent, node);
-        to = put_step(out, to, schema, parent, child);
+    while let Some(child) = toward(schema, parent, node) {
+        put_step(w, schema, parent, child);
         parent = child;
     }
-    to
 }

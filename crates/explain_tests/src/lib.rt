@@ -37,7 +37,7 @@ fn schema_bytes(heap: Global, nodes: Nodes) -> Result<Vec<u8>, AllocError> {
     let mut bytes = Vec::new(heap);
     let mut start = 0u8;
     for (k, n) in nodes.records.iter().enumerate() {
-        let flag = if k == 0 { 0 } else { 1 };
+        let flag = u8::from(k > 0);
         let size = n.3.saturating_sub(start);
         bytes.extend_from_slice(&[
             n.0, flag, 0, 0, n.1, 0, 0, 0, start, 0, 0, 0, size, 0, n.2, 0,
@@ -82,6 +82,35 @@ fn offset_bytes(heap: Global, ends: &[u8]) -> Result<Vec<u8>, AllocError> {
     Ok(bytes)
 }
 
+// The bytes that a schema and a case stand for.
+#[derive(Drop)]
+struct Made {
+    records: Vec<u8>,
+    elements: Vec<u8>,
+    offsets: Vec<u8>,
+}
+
+impl Made {
+    fn new<'a>(heap: Global, nodes: Nodes<'a>, case: Case<'a>) -> Result<Made, AllocError> {
+        Ok(Made {
+            records: schema_bytes(heap, nodes)?,
+            elements: element_bytes(heap, case.elements)?,
+            offsets: offset_bytes(heap, case.ends)?,
+        })
+    }
+
+    // With the bytes that need not be made.
+    fn bytes<'a>(&'a self, nodes: Nodes<'a>, case: Case<'a>) -> Bytes<'a> {
+        Bytes {
+            records: self.records.as_slice(),
+            names: nodes.names,
+            elements: self.elements.as_slice(),
+            texts: case.texts.as_bytes(),
+            offsets: self.offsets.as_slice(),
+        }
+    }
+}
+
 // The bytes of a schema and a tape.
 #[derive(Clone, Copy)]
 pub struct Bytes<'a> {
@@ -105,13 +134,13 @@ fn told(bytes: Bytes, list_rows: bool, fault: Fault, text: &mut [u8]) -> Result<
     explain(schema, settings, &Thousandths {}, tape, fault, text)
 }
 
-// Whether just this text is written into an area of sevens.
-fn writes(bytes: Bytes, list_rows: bool, fault: Fault, expected: &str, area: &mut [u8]) -> bool {
-    match told(bytes, list_rows, fault, area) {
+// Whether just the text of the case is written into an area of sevens.
+fn writes(bytes: Bytes, case: Case, area: &mut [u8]) -> bool {
+    match told(bytes, case.list_rows, case.fault, area) {
         Ok(n) if n <= area.len() => {
-            n == expected.len()
-                && &area[0..n] == expected.as_bytes()
-                && all_sevens(&area[n..area.len()])
+            n == case.expected.len()
+                && &area[..n] == case.expected.as_bytes()
+                && all_sevens(&area[n..])
         }
         _ => false,
     }
@@ -123,40 +152,17 @@ fn stays(bytes: Bytes, fault: Fault, refusal: Fault, area: &mut [u8]) -> bool {
 }
 
 fn all_sevens(area: &[u8]) -> bool {
-    for b in area {
-        if *b != 7 {
-            return false;
-        }
-    }
-    true
+    area.iter().all(|b| *b == 7)
 }
 
 // Whether the fault has just its text, in an area of its size and in a larger one.
 fn tells<'a>(heap: Global, nodes: Nodes<'a>, case: Case<'a>) -> Result<bool, AllocError> {
-    let records = schema_bytes(heap, nodes)?;
-    let elements = element_bytes(heap, case.elements)?;
-    let offsets = offset_bytes(heap, case.ends)?;
-    let bytes = Bytes {
-        records: records.as_slice(),
-        names: nodes.names,
-        elements: elements.as_slice(),
-        texts: case.texts.as_bytes(),
-        offsets: offsets.as_slice(),
-    };
+    let made = Made::new(heap, nodes, case)?;
+    let bytes = made.bytes(nodes, case);
     let mut exact = [7u8; 256];
     let mut large = [7u8; 256];
     let size = case.expected.len();
-    if size > 256 {
-        return Ok(false);
-    }
-    let small = writes(
-        bytes,
-        case.list_rows,
-        case.fault,
-        case.expected,
-        &mut exact[0..size],
-    );
-    Ok(small && writes(bytes, case.list_rows, case.fault, case.expected, &mut large))
+    Ok(size <= 256 && writes(bytes, case, &mut exact[..size]) && writes(bytes, case, &mut large))
 }
 
 // Whether a fault gets this refusal in an area of so many bytes, all of which stay.
@@ -168,19 +174,7 @@ fn refuses<'a>(
     room: usize,
     refusal: Fault,
 ) -> Result<bool, AllocError> {
-    let records = schema_bytes(heap, nodes)?;
-    let elements = element_bytes(heap, case.elements)?;
-    let offsets = offset_bytes(heap, case.ends)?;
-    let bytes = Bytes {
-        records: records.as_slice(),
-        names: nodes.names,
-        elements: elements.as_slice(),
-        texts: case.texts.as_bytes(),
-        offsets: offsets.as_slice(),
-    };
+    let made = Made::new(heap, nodes, case)?;
     let mut area = [7u8; 256];
-    if room > 256 {
-        return Ok(false);
-    }
-    Ok(stays(bytes, fault, refusal, &mut area[0..room]))
+    Ok(room <= 256 && stays(made.bytes(nodes, case), fault, refusal, &mut area[..room]))
 }

@@ -3,7 +3,8 @@ use Rattle.std.proofs.Common.{◌≡◌, ℕ, ◌+◌, ◌-◌, ◌*◌, ◌^◌
 use mathlib.Core.Option.{Option, none, some}
 use Rattle.std.proofs.lemmas.Bool.{both_ways, and_parts}
 use Rattle.octets.specs.Lists.{joined, rest, via, or_else, all, first}
-use Rattle.schema.specs.Tree.{Node, Fields, Branch, branch, leaf, ◌⊕◌, field_of, many, nodes}
+use Rattle.schema.specs.Tree.{Node, Fields, branch, leaf, ◌⊕◌, field_of, many, nodes}
+use Rattle.schema.specs.declared.kind.Branch.{Branch}
 use Rattle.tape.specs.View.{TapeView, is_position}
 use Rattle.slip.specs.Slips.{Got, refuse, got, slip, accepted, Refused, number_of}
 use Rattle.batch.specs.Rows.{row_at}

@@ -4,7 +4,9 @@ use mathlib.Core.Option.{Option, none, some}
 use native.Mathlib.Nat.{le-max_left, le-max_right}
 use Rattle.std.proofs.lemmas.Bool.{le-ltb}
 use Rattle.octets.specs.Lists.{joined, all, via, rest, first}
-use Rattle.schema.specs.Tree.{Node, Fields, Field, Branch, branch, leaf, struct, list, fixed, ◌⊕◌, field_of, many, names, nodes}
+use Rattle.schema.specs.Tree.{Node, Fields, Field, branch, leaf, ◌⊕◌, field_of, many, names, nodes}
+use Rattle.schema.specs.declared.kind.Branch.{Branch}
+use Rattle.schema.specs.declared.kind.Branch.TheVariants.{Struct as struct, List as list, Fixed as fixed}
 use Rattle.tape.specs.Layout.{the}
 use Rattle.tape.specs.View.{TapeView, is_at, entries, words_at, is_position}
 use Rattle.names.specs.Lowest.{lowest}
@@ -96,7 +98,7 @@ module _ (st : Setup) (t : TapeView) where
       items struct = one st.settings.list_rows
       items (list v w) = clear tt
       items (fixed n) = count n (eqb (length (entries t p)) n)
-      items Branch.map = clear tt
+      items Branch.Map = clear tt
 
       go : (a c : Bool) → Clear Any (cond a (then (items_at st.settings t f b cs p) (λ is. got (some is))) (cond c (got none) (refuse (slip 5 f.number p))))
       go true c = clear_then (items b) (λ x h. clear tt)

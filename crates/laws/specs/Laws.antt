@@ -1,7 +1,8 @@
 -- What the rules take, and laws of the leaves.
 use Rattle.std.specs.Prelude.{◌≡◌, ℕ, Bool, true, false, cond, ◌&&◌, List}
 use Rattle.std.proofs.Math.Option.{Option, none, some}
-use Rattle.schema.specs.Tree.{Field, LeafKind, leaf, field_of}
+use Rattle.schema.specs.Tree.{Field, leaf, field_of}
+use Rattle.schema.specs.declared.kind.LeafKind.{LeafKind}
 use Rattle.leaf.specs.Meaning.{Answer, fitting}
 use Rattle.tape.specs.View.{TapeView, is_position, element_at}
 use Rattle.slip.specs.Slips.{Got, refuse, got, slip}
@@ -18,8 +19,8 @@ pub record Asked (st : Setup) (t : TapeView) (f : Field) (p : ℕ) (is : Got (Op
   pub unfit : (bs : List ℕ) → st.custom.answer (element_at t p) ≡ Answer.value bs → fitting st.custom.layout bs ≡ false → is ≡ refuse (slip 11 f.number p)
   pub misfit : st.custom.answer (element_at t p) ≡ Answer.misfit → is ≡ refuse (slip 11 f.number p)
   pub conflict : st.custom.answer (element_at t p) ≡ Answer.conflict → is ≡ cond st.settings.lenient (got none) (refuse (slip 5 f.number p))
-  pub layout : (meaning st LeafKind.custom).layout ≡ st.custom.layout
+  pub layout : (meaning st LeafKind.Custom).layout ≡ st.custom.layout
 
 -- so it is at every position
 abbrev pub CustomAsked : Type 0
-CustomAsked = (st : Setup) (t : TapeView) (f : Field) (inForce : Bool) (p : ℕ) → Asked st t f p (value st t (leaf f LeafKind.custom) inForce p)
+CustomAsked = (st : Setup) (t : TapeView) (f : Field) (inForce : Bool) (p : ℕ) → Asked st t f p (value st t (leaf f LeafKind.Custom) inForce p)

@@ -2,7 +2,8 @@
 use Rattle.std.specs.Prelude.{ℕ, ◌+◌, ◌-◌, ◌*◌, ◌^◌, Bool, cond, ◌||◌, List, [], ◌∷◌, ◌++◌, map, length, replicate, nat_lt}
 use Rattle.std.proofs.Math.Option.{Option, none, some}
 use Rattle.octets.specs.Lists.{joined, via, rest, first}
-use Rattle.schema.specs.Tree.{Node, Fields, Branch, branch, leaf, ◌⊕◌, field_of, many, nodes}
+use Rattle.schema.specs.Tree.{Node, Fields, branch, leaf, ◌⊕◌, field_of, many, nodes}
+use Rattle.schema.specs.declared.kind.Branch.{Branch}
 use Rattle.tape.specs.View.{TapeView, is_position}
 use Rattle.slip.specs.Slips.{slip, Got, refuse, got, then, each}
 use Rattle.batch.specs.Rows.{row_at}

@@ -1,7 +1,8 @@
 -- How much of the work list the rows at some positions want.
 use Rattle.std.specs.Prelude.{ℕ, ◌+◌, ◌*◌, max, Bool, ◌||◌, List, map, length}
 use Rattle.octets.specs.Lists.{joined, rest, first}
-use Rattle.schema.specs.Tree.{Node, Fields, Field, Branch, branch, leaf, ◌⊕◌, field_of, many}
+use Rattle.schema.specs.Tree.{Node, Fields, Field, branch, leaf, ◌⊕◌, field_of, many}
+use Rattle.schema.specs.declared.kind.Branch.{Branch}
 use Rattle.tape.specs.View.{TapeView}
 use Rattle.slip.specs.Slips.{accepted}
 use Rattle.batch.specs.Rows.{row_at}

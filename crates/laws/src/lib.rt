@@ -5,22 +5,16 @@ ghost use Rattle.laws.specs.Laws.{CustomAsked};
 ghost use Rattle.laws.specs.History.{AlwaysKept, AlwaysInFormat};
 
 // The laws of every run.
-pub fn always_kept() -> u8
+pub fn always_kept()
     ensures { AlwaysKept }
-{
-    0
-}
+{}
 
 // Every batch that is held is in the Format.
-pub fn always_in_format() -> u8
+pub fn always_in_format()
     ensures { AlwaysInFormat }
-{
-    0
-}
+{}
 
 // The custom leaf's own answers are what its columns hold.
-pub fn custom_asked() -> u8
+pub fn custom_asked()
     ensures { CustomAsked }
-{
-    0
-}
+{}

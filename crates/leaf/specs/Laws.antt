@@ -1,7 +1,7 @@
 -- What the layers do to a leaf, whatever it means, and what the piles promise.
 use Rattle.std.specs.Prelude.{◌≡◌, ℕ, ◌-◌, ◌^◌, Bool, true, false, cond, List, ℤ, pos, negsuc, codes, ◌≢◌}
 use Rattle.std.specs.Fmt.{signed_decimal}
-use Rattle.schema.specs.Tree.{LeafKind}
+use Rattle.schema.specs.declared.kind.LeafKind.{LeafKind}
 use Rattle.schema.specs.declared.settings.Settings.{Settings}
 use Rattle.tape.specs.View.{Elem, object, list, string, number, i64, i32, bool, null}
 use Rattle.leaf.specs.Bytes.{GivesBytes}

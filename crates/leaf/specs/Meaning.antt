@@ -2,7 +2,7 @@
 use Rattle.std.specs.Prelude.{ℕ, Bool, true, false, cond, List, [], ◌∷◌, length, codes, ◌==◌, nat_lt}
 use Rattle.std.proofs.Math.Option.{Option, some}
 use Rattle.std.specs.Fmt.{signed_decimal}
-use Rattle.schema.specs.Tree.{LeafKind}
+use Rattle.schema.specs.declared.kind.LeafKind.{LeafKind}
 use Rattle.schema.specs.declared.settings.Settings.{Settings}
 use Rattle.tape.specs.View.{Elem, object, list, string, number, i64, i32, bool, null}
 use Rattle.leaf.specs.declared.layout.Layout.{Layout}
@@ -137,7 +137,7 @@ when on layer m = cond on (layer m) m
 
 -- Text has Lenient over Coerce, Boolean and Null have Lenient, and a custom leaf has Lenient over Checked
 abbrev pub pile : Settings → Meaning → LeafKind → Meaning
-pile s own (LeafKind.text wide) = when s.lenient lenient (when s.coerce coerce text_leaf)
-pile s own LeafKind.boolean = when s.lenient lenient boolean_leaf
-pile s own LeafKind.null = when s.lenient lenient null_leaf
-pile s own LeafKind.custom = when s.lenient lenient (checked own)
+pile s own (LeafKind.Text wide) = when s.lenient lenient (when s.coerce coerce text_leaf)
+pile s own LeafKind.Boolean = when s.lenient lenient boolean_leaf
+pile s own LeafKind.Null = when s.lenient lenient null_leaf
+pile s own LeafKind.Custom = when s.lenient lenient (checked own)

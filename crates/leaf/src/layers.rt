@@ -1,7 +1,7 @@
 // Layers over a leaf: each has the layout and the word of the leaf below.
-ghost use Rattle.std.specs.Prelude.{◌≡◌, ◌&&◌, length};
+ghost use Rattle.std.specs.Prelude.{◌≡◌, ◌&&◌, ℕ, List, [], ◌∷◌, length};
 ghost use Rattle.tape.specs.Values.{elem_of};
-ghost use Rattle.leaf.specs.Meaning.{Meaning, value, lenient, coerce, checked, when, keeps_text};
+ghost use Rattle.leaf.specs.Meaning.{Meaning, value, lenient, coerce, checked, fitting, when, keeps_text};
 ghost use Rattle.leaf.specs.Replies.{reply_of};
 ghost use Rattle.leaf.specs.declared.layout.Layout.{Layout};
 ghost use Rattle.leaf.specs.declared.layout.Reply.{Reply};
@@ -11,7 +11,7 @@ use crate::{Leaf, decimal};
 use tape::element::Element;
 
 // Where it is on, turns a conflict into null.
-#[derive(Clone, Copy)]
+#[derive(Clone, Copy, PartialEq, Eq, Debug)]
 pub struct Lenient<L> {
     pub below: L,
     pub on: bool,
@@ -43,9 +43,34 @@ impl<L: Leaf> Leaf for Lenient<L> {
 }
 
 // Turns a value that does not fit the layout below into a misfit.
-#[derive(Clone, Copy)]
+#[derive(Clone, Copy, PartialEq, Eq, Debug)]
 pub struct Checked<L> {
     pub below: L,
+}
+
+impl<L: Leaf> Checked<L> {
+    // Whether the value of `e`, which has `size` bytes, fits the layout below.
+    fn fits(&self, e: Element, size: usize) -> bool
+        requires { reply_of ((L.Leaf.meaning self.now.below).answer (elem_of e)) ≡ Reply.Value size }
+        ensures { (bs : List ℕ) → (L.Leaf.meaning self.now.below).answer (elem_of e.entry) ≡ value bs → result ≡ fitting (L.Leaf.meaning self.now.below).layout bs }
+    {
+        match self.below.layout() {
+            Layout::None => false,
+            Layout::Bit => size == 1 && self.bit(e) < 2,
+            Layout::Text => true,
+            Layout::Eight => size == 8,
+        }
+    }
+
+    // The one byte of the value of `e`.
+    fn bit(&self, e: Element) -> u8
+        requires { reply_of ((L.Leaf.meaning self.now.below).answer (elem_of e)) ≡ Reply.Value 1 }
+        ensures { (L.Leaf.meaning self.now.below).answer (elem_of e.entry) ≡ value (result ∷ []) }
+    {
+        let mut b = [0];
+        self.below.write(e, &mut b);
+        b[0]
+    }
 }
 
 impl<L: Leaf> Leaf for Checked<L> {
@@ -59,29 +84,7 @@ impl<L: Leaf> Leaf for Checked<L> {
 
     fn answer(&self, e: Element) -> Reply {
         match self.below.answer(e) {
-            Reply::Value(n) => match self.below.layout() {
-                Layout::None => Reply::Misfit,
-                Layout::Bit => {
-                    if n != 1 {
-                        return Reply::Misfit;
-                    }
-                    let mut b = [0u8; 1];
-                    self.below.write(e, &mut b);
-                    if b[0] < 2 {
-                        Reply::Value(n)
-                    } else {
-                        Reply::Misfit
-                    }
-                }
-                Layout::Text => Reply::Value(n),
-                Layout::Eight => {
-                    if n == 8 {
-                        Reply::Value(n)
-                    } else {
-                        Reply::Misfit
-                    }
-                }
-            },
+            Reply::Value(n) if !self.fits(e, n) => Reply::Misfit,
             r => r,
         }
     }
@@ -96,7 +99,7 @@ impl<L: Leaf> Leaf for Checked<L> {
 }
 
 // Where it is on, gives numbers and truth values as text if the layout below is text.
-#[derive(Clone, Copy)]
+#[derive(Clone, Copy, PartialEq, Eq, Debug)]
 pub struct Coerce<L> {
     pub below: L,
     pub on: bool,
@@ -107,11 +110,7 @@ impl<L: Leaf> Coerce<L> {
     fn acts(&self) -> bool
         ensures { result ≡ (self.now.on && keeps_text (L.Leaf.meaning self.now.below).layout) }
     {
-        if self.on {
-            matches!(self.below.layout(), Layout::Text)
-        } else {
-            false
-        }
+        self.on && matches!(self.below.layout(), Layout::Text)
     }
 }
 
@@ -131,7 +130,7 @@ impl<L: Leaf> Leaf for Coerce<L> {
         match e {
             Element::Number(s) => Reply::Value(s.len()),
             Element::I64(n) => Reply::Value(decimal::size(n)),
-            Element::I32(n) => Reply::Value(decimal::size(n as i64)),
+            Element::I32(n) => Reply::Value(decimal::size(i64::from(n))),
             Element::True => Reply::Value(4),
             Element::False => Reply::Value(5),
             _ => self.below.answer(e),
@@ -145,7 +144,7 @@ impl<L: Leaf> Leaf for Coerce<L> {
         match e {
             Element::Number(s) => out.copy_from_slice(s),
             Element::I64(n) => decimal::put(n, out),
-            Element::I32(n) => decimal::put(n as i64, out),
+            Element::I32(n) => decimal::put(i64::from(n), out),
             Element::True => out.copy_from_slice(b"true"),
             Element::False => out.copy_from_slice(b"false"),
             _ => self.below.write(e, out),

@@ -11,8 +11,8 @@ use crate::layout::{Layout, Reply};
 use tape::element::Element;
 
 // Takes strings, and keeps their bytes.
-#[derive(Clone, Copy)]
-pub struct Text {}
+#[derive(Clone, Copy, PartialEq, Eq, Debug, Default)]
+pub struct Text;
 
 impl Leaf for Text {
     ghost meaning = { λ _. text_leaf };
@@ -43,8 +43,8 @@ impl Leaf for Text {
 }
 
 // Takes true and false, and keeps a byte of 1 or 0.
-#[derive(Clone, Copy)]
-pub struct Boolean {}
+#[derive(Clone, Copy, PartialEq, Eq, Debug, Default)]
+pub struct Boolean;
 
 impl Leaf for Boolean {
     ghost meaning = { λ _. boolean_leaf };
@@ -77,8 +77,8 @@ impl Leaf for Boolean {
 }
 
 // Takes nulls, and keeps no value.
-#[derive(Clone, Copy)]
-pub struct Null {}
+#[derive(Clone, Copy, PartialEq, Eq, Debug, Default)]
+pub struct Null;
 
 impl Leaf for Null {
     ghost meaning = { λ _. null_leaf };

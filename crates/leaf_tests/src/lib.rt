@@ -18,8 +18,8 @@ use leaf::layout::{Layout, Reply};
 use tape::element::Element;
 
 // A custom leaf that makes null of everything.
-#[derive(Clone, Copy)]
-pub struct AlwaysNull {}
+#[derive(Clone, Copy, PartialEq, Eq, Debug, Default)]
+pub struct AlwaysNull;
 
 impl Leaf for AlwaysNull {
     ghost meaning = { λ _. record { layout = Layout.Eight; answer = λ _. nothing } };
@@ -45,7 +45,7 @@ impl Leaf for AlwaysNull {
 }
 
 // A custom leaf that makes the same bytes of everything.
-#[derive(Clone, Copy)]
+#[derive(Clone, Copy, PartialEq, Eq, Debug)]
 pub struct AlwaysSame {
     pub layout: Layout,
     pub size: usize,
@@ -79,7 +79,7 @@ pub fn gives<L: Leaf>(leaf: &L, e: Element, bytes: &[u8]) -> bool {
     let mut out = [0u8; 32];
     match leaf.answer(e) {
         Reply::Value(n) if n <= 32 => {
-            let part = &mut out[0..n];
+            let part = &mut out[..n];
             leaf.write(e, part);
             &*part == bytes
         }

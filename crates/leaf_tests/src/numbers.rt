@@ -64,7 +64,7 @@ fn refuses_what_is_too_long(rt: HostRuntime) {
 
 #[test]
 fn writes_eight_bytes(rt: HostRuntime) {
-    let leaf = Thousandths {};
+    let leaf = Thousandths;
     assert!(rt; gives(&leaf, Element::Number(b"-0.0005"), &[255; 8]));
     assert!(rt;
         gives(
@@ -78,7 +78,7 @@ fn writes_eight_bytes(rt: HostRuntime) {
 
 #[test]
 fn answers_elements(rt: HostRuntime) {
-    let leaf = Thousandths {};
+    let leaf = Thousandths;
     assert_eq!(rt; leaf.answer(Element::Null), Reply::Null);
     assert_eq!(rt; leaf.answer(Element::String(b"1")), Reply::Conflict);
     assert_eq!(rt; leaf.answer(Element::True), Reply::Conflict);

@@ -20,33 +20,26 @@ const OFF: Settings = Settings {
 
 const COERCE: Settings = Settings {
     coerce: true,
-    strict: false,
-    lenient: false,
-    list_rows: false,
+    ..OFF
 };
 
 const LENIENT: Settings = Settings {
-    coerce: false,
-    strict: false,
     lenient: true,
-    list_rows: false,
+    ..OFF
 };
 
 #[test]
 fn plain_leaves(rt: HostRuntime) {
-    assert!(rt; gives(&Text {}, Element::String(b"hi"), b"hi"));
-    assert!(rt; gives(&Text {}, Element::String(b""), b""));
-    assert_eq!(rt; Text {}.answer(Element::Null), Reply::Null);
-    assert_eq!(rt; Text {}.answer(Element::Number(b"1")), Reply::Conflict);
-    assert!(rt; gives(&Boolean {}, Element::True, &[1]));
-    assert!(rt; gives(&Boolean {}, Element::False, &[0]));
-    assert_eq!(rt; Boolean {}.answer(Element::Null), Reply::Null);
-    assert_eq!(rt;
-        Boolean {}.answer(Element::String(b"true")),
-        Reply::Conflict
-    );
-    assert_eq!(rt; Null {}.answer(Element::Null), Reply::Null);
-    assert_eq!(rt; Null {}.answer(Element::List), Reply::Conflict);
+    assert!(rt; gives(&Text, Element::String(b"hi"), b"hi"));
+    assert!(rt; gives(&Text, Element::String(b""), b""));
+    assert_eq!(rt; Text.answer(Element::Null), Reply::Null);
+    assert_eq!(rt; Text.answer(Element::Number(b"1")), Reply::Conflict);
+    assert!(rt; gives(&Boolean, Element::True, &[1]));
+    assert!(rt; gives(&Boolean, Element::False, &[0]));
+    assert_eq!(rt; Boolean.answer(Element::Null), Reply::Null);
+    assert_eq!(rt; Boolean.answer(Element::String(b"true")), Reply::Conflict);
+    assert_eq!(rt; Null.answer(Element::Null), Reply::Null);
+    assert_eq!(rt; Null.answer(Element::List), Reply::Conflict);
 }
 
 #[test]
@@ -54,7 +47,7 @@ fn words(rt: HostRuntime) {
     assert_eq!(rt; text_pile(COERCE).word(), "string");
     assert_eq!(rt; boolean_pile(OFF).word(), "boolean");
     assert_eq!(rt; null_pile(LENIENT).word(), "null");
-    assert_eq!(rt; custom_pile(OFF, &Thousandths {}).word(), "number");
+    assert_eq!(rt; custom_pile(OFF, &Thousandths).word(), "number");
 }
 
 #[test]
@@ -68,7 +61,7 @@ fn coerces_only_text(rt: HostRuntime) {
     assert_eq!(rt; text.answer(Element::Object), Reply::Conflict);
     assert_eq!(rt; text_pile(OFF).answer(Element::True), Reply::Conflict);
     let bits = Coerce {
-        below: Boolean {},
+        below: Boolean,
         on: true,
     };
     assert_eq!(rt; bits.answer(Element::Number(b"1")), Reply::Conflict);
@@ -139,7 +132,7 @@ fn checked_by_layout(rt: HostRuntime) {
 // A custom leaf that never has a value is a leaf like any other.
 #[test]
 fn a_leaf_that_is_always_null(rt: HostRuntime) {
-    let leaf = AlwaysNull {};
+    let leaf = AlwaysNull;
     let pile = custom_pile(OFF, &leaf);
     assert_eq!(rt; pile.layout(), Layout::Eight);
     assert_eq!(rt; pile.answer(Element::Number(b"1")), Reply::Null);

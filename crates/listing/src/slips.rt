@@ -1,9 +1,14 @@
 // What a refusal says.
+ghost use Rattle.std.specs.Prelude.{◌≡◌, Some};
+ghost use Rattle.listing.specs.Refusals.{meaning_of, counted_by, slip_text};
+
 use slip::Fault;
 use std::fmt;
 
 // What the refusal means, in a line.
-pub fn meaning(fault: Fault) -> &'static str {
+fn meaning(fault: Fault) -> &'static str
+    ensures { result.now ≡ meaning_of fault }
+{
     match fault {
         Fault::TornTape => "these bytes break a rule of tapes; nothing was read from them",
         Fault::BadSchema => "these records hold no tree of columns, or break a limit",
@@ -20,35 +25,44 @@ pub fn meaning(fault: Fault) -> &'static str {
     }
 }
 
-// What the refusal's place counts.
-pub fn place_counts(fault: Fault) -> &'static str {
+// What the refusal's place counts, as it stands behind the place.
+fn place_counts(fault: Fault) -> &'static str
+    ensures { result.now ≡ counted_by fault }
+{
     match fault {
-        Fault::BadPosition { .. } => "entry of the list of positions",
-        Fault::WrongKind { .. } | Fault::Misfit { .. } => "element of the tape",
-        Fault::UnknownColumn { .. } => "element of the tape: the name",
-        Fault::ExtraColumn { .. } => "element of the tape: the first entry too many",
-        Fault::FewColumns { .. } | Fault::WrongCount { .. } => "element of the tape: the row",
-        Fault::BareNull { .. } => "slot of the node",
-        _ => "",
+        Fault::BadPosition { .. } => "  (entry of the list of positions)",
+        Fault::WrongKind { .. } | Fault::Misfit { .. } => "  (element of the tape)",
+        Fault::UnknownColumn { .. } => "  (element of the tape: the name)",
+        Fault::ExtraColumn { .. } => "  (element of the tape: the first entry too many)",
+        Fault::FewColumns { .. } | Fault::WrongCount { .. } => "  (element of the tape: the row)",
+        Fault::BareNull { .. } => "  (slot of the node)",
+        Fault::TornTape | Fault::BadSchema | Fault::Full { .. } | Fault::NotThere => "",
     }
 }
 
-// The refusal's slip, a line for each part.
-pub fn write_slip<W: fmt::Write>(out: &mut W, fault: Fault) -> fmt::Result {
-    let number = fault.number();
-    let word = fault.word();
-    let node = fault.node();
-    let place = fault.place();
-    let counts = place_counts(fault);
-    let meaning = meaning(fault);
-    writeln!(out, "  REFUSED")?;
-    writeln!(out, "    number   {number}")?;
-    writeln!(out, "    word     {word}")?;
-    writeln!(out, "    node     {node}")?;
-    if counts.is_empty() {
-        writeln!(out, "    place    {place}")?;
-    } else {
-        writeln!(out, "    place    {place}  ({counts})")?;
+// A refusal's slip, a line for each part.
+#[derive(Clone, Copy)]
+pub struct Slip(pub Fault);
+
+impl fmt::Display for Slip {
+    ghost output = { λ slip. Some (slip_text slip.0) };
+
+    fn fmt<W: fmt::Write>(&self, f: &mut fmt::Formatter<W>) -> fmt::Result {
+        let Slip(fault) = *self;
+        let number = fault.number();
+        let word = fault.word();
+        let node = fault.node();
+        let place = fault.place();
+        let counts = place_counts(fault);
+        let meaning = meaning(fault);
+        writeln!(
+            f,
+            "  REFUSED
+    number   {number}
+    word     {word}
+    node     {node}
+    place    {place}{counts}
+    meaning  {meaning}"
+        )
     }
-    writeln!(out, "    meaning  {meaning}")
 }

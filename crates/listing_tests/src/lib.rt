@@ -3,17 +3,16 @@
 
 #[cfg(test)]
 mod tests {
-    use listing::slips::write_slip;
+    use listing::slips::Slip;
     use listing::words::Shown;
     use slip::Fault;
     use std::test::Fail;
 
     #[test]
-    fn a_slip_says_what_its_place_counts(rt: HostRuntime) {
-        let mut out = String::new(rt.alloc());
-        let _ = write_slip(&mut out, Fault::BareNull { child: 3, slot: 7 });
+    fn a_slip_says_what_its_place_counts(rt: HostRuntime) -> Result<(), Fail> {
+        let slip = Slip(Fault::BareNull { child: 3, slot: 7 });
         assert_eq!(rt;
-            out.as_str(),
+            format!(in rt.alloc(); "{slip}")?.as_str(),
             "  REFUSED
     number   10
     word     bare null
@@ -22,14 +21,14 @@ mod tests {
     meaning  null in a row that is there, where null may not be
 "
         );
+        Ok(())
     }
 
     #[test]
-    fn a_slip_without_a_place_says_no_more(rt: HostRuntime) {
-        let mut out = String::new(rt.alloc());
-        let _ = write_slip(&mut out, Fault::NotThere);
+    fn a_slip_without_a_place_says_no_more(rt: HostRuntime) -> Result<(), Fail> {
+        let slip = Slip(Fault::NotThere);
         assert_eq!(rt;
-            out.as_str(),
+            format!(in rt.alloc(); "{slip}")?.as_str(),
             "  REFUSED
     number   12
     word     not there
@@ -38,6 +37,7 @@ mod tests {
     meaning  no such batch, node, slot or fault
 "
         );
+        Ok(())
     }
 
     #[test]

@@ -1,4 +1,5 @@
 pub mod Lowest
+pub mod Readable
 pub mod Scans
 pub mod Hash
 pub mod Slots

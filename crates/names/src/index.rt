@@ -2,10 +2,10 @@
 ghost use Rattle.std.specs.Prelude.{◌≡◌, ◌<◌};
 ghost use Rattle.schema.specs.Tree.{Node, children_of, names as names_in};
 ghost use Rattle.schema.specs.Layout.{the, letter_at};
-ghost use Rattle.schema.specs.Opened.{Opened, NodeOf, records_of, size_of};
+ghost use Rattle.schema.specs.Opened.{NodeOf, records_of, size_of};
 ghost use Rattle.names.specs.Lowest.{AlwaysLowest};
-ghost use Rattle.names.specs.Scans.{scan_names, ScanReady};
-ghost use Rattle.names.specs.Indexes.{index_names, IndexReady, Chosen};
+ghost use Rattle.names.specs.Scans.{scan_names};
+ghost use Rattle.names.specs.Indexes.{index_names, Chosen};
 
 use crate::NameIndex;
 use crate::scan::Scan;
@@ -19,39 +19,34 @@ pub enum Index<'a> {
     Many(Table<'a>),
 }
 
-impl<'a> Index<'a> {
-    // The names of a scan.
-    pub fn over(scan: Scan<'a>) -> Index<'a>
-        requires { ScanReady scan }
-        ensures chosen { Chosen result }
-        ensures ready { IndexReady result }
-        ensures names { index_names result ≡ scan_names scan.entry }
-    {
-        if scan.count < 16 {
+// The names of a scan.
+impl<'a> From<Scan<'a>> for Index<'a> {
+    ghost from_gives = { λ scan index. Chosen index × (index_names index ≡ scan_names scan) };
+
+    fn from(scan: Scan<'a>) -> Index<'a> {
+        if scan.len() < 16 {
             Index::Few(scan)
         } else {
-            Index::Many(Table::of(scan))
+            Index::Many(Table::from(scan))
         }
     }
+}
 
+impl<'a> Index<'a> {
     // The fields of a struct.
     pub fn of(schema: Schema<'a>, node: usize) -> Index<'a>
-        requires opened { Opened schema }
         requires within { node < size_of schema }
         requires kind { letter_at (records_of schema) node ≡ the "S" }
         ensures chosen { Chosen result }
-        ensures ready { IndexReady result }
         ensures names { (t : Node) → NodeOf schema.entry node t → index_names result ≡ names_in (children_of t) }
         ensures lowest { AlwaysLowest }
     {
-        Index::over(Scan::of(schema, node))
+        Index::from(Scan::of(schema, node))
     }
 }
 
 impl NameIndex for Index<'_> {
     ghost names = { index_names };
-
-    ghost ready = { IndexReady };
 
     fn find(&self, name: &[u8]) -> Option<usize> {
         match self {

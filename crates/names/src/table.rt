@@ -1,60 +1,46 @@
 // Names, found by a hash.
-ghost use Rattle.std.specs.Prelude.{◌≡◌, ℕ, ◌<◌, ◌≤◌, slice_index};
-ghost use Rattle.names.specs.Scans.{scan_names, ScanReady};
-ghost use Rattle.names.specs.Slots.{used, kept, Sought};
-ghost use Rattle.names.specs.Indexes.{TableReady};
+ghost use Rattle.std.specs.Prelude.{◌≡◌, ℕ, ◌<◌, ◌≤◌, Option, length};
+ghost use Rattle.names.specs.Scans.{scan_names};
+ghost use Rattle.names.specs.Slots.{used, Holds, Sought, Keyed};
 
 use crate::NameIndex;
 use crate::hash::hash;
 use crate::scan::Scan;
 
-// A slot has one more than the place of a name, or 0. A name stands in the first slot that was empty from its own slot on.
+// A slot may hold the place of a name. A name stands in the first slot that was empty from its own slot on.
 #[derive(Drop)]
 pub struct Table<'a> {
     pub(crate) scan: Scan<'a>,
-    slots: [u8; 128],
+    slots: [Option<u8>; 128],
+    ghost keyed: { ∥ Keyed (scan_names scan) slots (length (scan_names scan)) ∥₁ },
 }
 
 // The slot that has the name, or else the first empty slot on the way.
-fn seek(scan: &Scan<'_>, slots: &[u8; 128], name: &[u8]) -> usize
-    requires ready { ScanReady scan.now }
-    requires known { (s : ℕ) → slice_index slots.now s ≤ scan.now.count }
-    requires room { used slots.now < 128 }
+fn seek(scan: &Scan<'_>, slots: &[Option<u8>; 128], name: &[u8]) -> usize
+    requires known { (s p : ℕ) → Holds slots.now s p → p < length (scan_names scan.now) }
+    requires room { used slots.now ≤ length (scan_names scan.now) }
     ensures below { result < 128 }
     ensures sought { Sought (scan_names scan.now) slots.now name.now result }
 {
     let first = hash(name);
-    for step in 0..128 {
-        let slot = (first + step) % 128;
-        let held = slots[slot] as usize;
-        if held == 0 || scan.has(held - 1, name) {
-            return slot;
-        }
-    }
-    unreachable()
+    (0..128)
+        .map(|step| (first + step) % 128)
+        .find(|slot| match slots[*slot] {
+            Some(place) => scan.has(place as usize, name),
+            None => true,
+        })
+        .unwrap()
 }
 
-// Puts a place into an empty slot; a slot that has one keeps it.
-fn keep(slots: &mut [u8; 128], slot: usize, place: usize)
-    requires { (slot < 128) × (place < 64) }
-    ensures { slots.new ≡ kept slots.old slot place }
-{
-    if slots[slot] == 0 {
-        slots[slot] = place as u8 + 1;
-    }
-}
+// The names of a scan.
+impl<'a> From<Scan<'a>> for Table<'a> {
+    ghost from_gives = { λ scan table. table.scan ≡ scan };
 
-impl<'a> Table<'a> {
-    // The names of a scan.
-    pub fn of(scan: Scan<'a>) -> Table<'a>
-        requires { ScanReady scan }
-        ensures ready { TableReady result }
-        ensures same { result.scan ≡ scan.entry }
-    {
-        let mut slots = [0u8; 128];
-        for place in 0..scan.count {
+    fn from(scan: Scan<'a>) -> Table<'a> {
+        let mut slots = [None; 128];
+        for place in 0..scan.len() {
             let slot = seek(&scan, &slots, scan.name(place));
-            keep(&mut slots, slot, place);
+            slots[slot] = slots[slot].or(Some(place as u8));
         }
         Table { scan, slots }
     }
@@ -63,13 +49,7 @@ impl<'a> Table<'a> {
 impl NameIndex for Table<'_> {
     ghost names = { λ t. scan_names t.scan };
 
-    ghost ready = { TableReady };
-
     fn find(&self, name: &[u8]) -> Option<usize> {
-        let slot = seek(&self.scan, &self.slots, name);
-        match self.slots[slot] {
-            0 => None,
-            held => Some(held as usize - 1),
-        }
+        self.slots[seek(&self.scan, &self.slots, name)].map(usize::from)
     }
 }

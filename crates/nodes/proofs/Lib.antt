@@ -1,6 +1,6 @@
 pub mod Gets
 pub mod Cols
-pub mod Middle
+pub mod Kids
 pub mod Steps
 pub mod Walking
 pub mod Worths

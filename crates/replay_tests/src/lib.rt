@@ -3,9 +3,9 @@
 
 #[cfg(test)]
 mod tests {
-    use entry::Indexed;
     use leaf::leaves::Null;
-    use replay::{Answer, Call, replay};
+    use replay::{Answer, Call, TapeBytes, replay};
+    use schema::Schema;
     use schema::settings::Settings;
     use slip::Fault;
 
@@ -30,21 +30,13 @@ mod tests {
         list_rows: false,
     };
 
-    // An answer as its kind and up to three numbers.
-    fn told(a: Answer) -> (u8, usize, usize, usize) {
-        match a {
-            Answer::Batch(n) => (0, n, 0, 0),
-            Answer::Cell(kind, first, second) => (1, kind as usize, first, second),
-            Answer::Counts(batches, free) => (2, batches, free, 0),
-            Answer::Refused(fault) => (3, fault.number(), fault.node(), fault.place()),
-        }
-    }
-
     fn shelve(positions: &[u32]) -> Call<'_> {
         Call::Shelve {
-            elements: &ELEMENTS,
-            texts: b"ahi",
-            offsets: &OFFSETS,
+            tape: TapeBytes {
+                elements: &ELEMENTS,
+                texts: b"ahi",
+                offsets: &OFFSETS,
+            },
             positions,
             lent: 16,
         }
@@ -55,7 +47,7 @@ mod tests {
     fn one_frame(rt: HostRuntime) {
         let mut page = [7u8; 96];
         let mut work = [9u32; 16];
-        let mut answers = [Answer::Batch(0); 6];
+        let mut answers = [Ok(Answer::Batch(0)); 6];
         let calls = [
             Call::Count,
             shelve(&[1]),
@@ -68,7 +60,7 @@ mod tests {
             Call::Release,
             Call::Count,
         ];
-        let r = replay::<Null, Indexed>(
+        let r = replay::<Null, Schema<'_>>(
             &RECORDS,
             b"a",
             OFF,
@@ -79,12 +71,12 @@ mod tests {
             &mut answers,
         );
         assert!(rt; r.is_ok());
-        assert_eq!(rt; told(answers[0]), (2, 0, 96, 0));
-        assert_eq!(rt; told(answers[1]), (0, 0, 0, 0));
-        assert_eq!(rt; told(answers[2]), (2, 1, 16, 0));
-        assert_eq!(rt; told(answers[3]), (1, 2, 72, 2));
-        assert_eq!(rt; told(answers[4]), (0, 0, 0, 0));
-        assert_eq!(rt; told(answers[5]), (2, 0, 96, 0));
+        assert_eq!(rt; answers[0], Ok(Answer::Counts(0, 96)));
+        assert_eq!(rt; answers[1], Ok(Answer::Batch(0)));
+        assert_eq!(rt; answers[2], Ok(Answer::Counts(1, 16)));
+        assert_eq!(rt; answers[3], Ok(Answer::Cell(2, 72, 2)));
+        assert_eq!(rt; answers[4], Ok(Answer::Batch(0)));
+        assert_eq!(rt; answers[5], Ok(Answer::Counts(0, 96)));
         assert!(rt; work[0] == 0);
         assert!(rt; page[72] == 0);
     }
@@ -94,7 +86,7 @@ mod tests {
     fn refusals_change_nothing(rt: HostRuntime) {
         let mut page = [7u8; 96];
         let mut work = [9u32; 16];
-        let mut answers = [Answer::Batch(0); 4];
+        let mut answers = [Ok(Answer::Batch(0)); 4];
         let calls = [
             shelve(&[1]),
             shelve(&[0]),
@@ -105,7 +97,7 @@ mod tests {
                 slot: 0,
             },
         ];
-        let r = replay::<Null, Indexed>(
+        let r = replay::<Null, Schema<'_>>(
             &RECORDS,
             b"a",
             OFF,
@@ -116,10 +108,10 @@ mod tests {
             &mut answers,
         );
         assert!(rt; r.is_ok());
-        assert_eq!(rt; told(answers[0]), (0, 0, 0, 0));
-        assert_eq!(rt; told(answers[1]), (3, 4, 0, 0));
-        assert_eq!(rt; told(answers[2]), (3, 4, 0, 0));
-        assert_eq!(rt; told(answers[3]), (3, 12, 0, 0));
+        assert_eq!(rt; answers[0], Ok(Answer::Batch(0)));
+        assert_eq!(rt; answers[1], Err(Fault::Full { node: 0 }));
+        assert_eq!(rt; answers[2], Err(Fault::Full { node: 0 }));
+        assert_eq!(rt; answers[3], Err(Fault::NotThere));
         assert!(rt; page[64] == 0 && page[68] == 2);
         assert!(rt; page[72] == b'h' && page[73] == b'i');
         assert!(rt; page[80] == 0);
@@ -130,9 +122,9 @@ mod tests {
     fn nothing_opens(rt: HostRuntime) {
         let mut page = [7u8; 95];
         let mut work = [0u32; 1];
-        let mut answers = [Answer::Batch(0); 1];
+        let mut answers = [Ok(Answer::Batch(0)); 1];
         let calls = [shelve(&[1])];
-        let bad = replay::<Null, Indexed>(
+        let bad = replay::<Null, Schema<'_>>(
             &RECORDS,
             b"",
             OFF,
@@ -143,7 +135,7 @@ mod tests {
             &mut answers,
         );
         assert_eq!(rt; bad, Err(Fault::BadSchema));
-        let odd = replay::<Null, Indexed>(
+        let odd = replay::<Null, Schema<'_>>(
             &RECORDS,
             b"a",
             OFF,

@@ -1,5 +1,8 @@
 // Dumps in files: reading them, opening them and printing what is in them.
-use listing::{schemas, sizes, slips, tapes};
+use listing::schemas::Nodes;
+use listing::sizes::{Bytes, Records};
+use listing::slips::Slip;
+use listing::tapes::{Elements, Rows, top_values};
 use schema::Schema;
 use slip::Fault;
 use std::fs;
@@ -43,10 +46,8 @@ fn read(rt: &HostRuntime, prefix: &str, ending: &str) -> anyhow::Result<Option<V
 }
 
 // Prints the slip of a refusal.
-fn print_fault(rt: &HostRuntime, fault: Fault) -> anyhow::Result<Outcome> {
-    let mut out = String::new(rt.alloc());
-    slips::write_slip(&mut out, fault)?;
-    rt.print(out.as_str())?;
+fn print_slip(rt: &HostRuntime, fault: Fault) -> anyhow::Result<Outcome> {
+    rt.print(Slip(fault))?;
     Ok(Outcome::Refused)
 }
 
@@ -57,23 +58,22 @@ fn print_tape<'a>(
     texts: &'a [u8],
     offsets: &'a [u8],
 ) -> anyhow::Result<Outcome> {
-    let mut out = String::new(rt.alloc());
-    sizes::write_records(&mut out, "elements", elements.len(), 8)?;
-    sizes::write_bytes(&mut out, "texts", texts.len())?;
-    sizes::write_records(&mut out, "offsets", offsets.len(), 4)?;
-    rt.println(out.as_str())?;
+    rt.println(Records::new("elements", elements.len(), 8))?;
+    rt.println(Bytes::new("texts", texts.len()))?;
+    println!(rt; "{}\n", Records::new("offsets", offsets.len(), 4))?;
     match Tape::open(elements, texts, offsets) {
         Ok(tape) => {
-            let mut out = String::new(rt.alloc());
-            let rows = tapes::top_values(rt.alloc(), tape)?;
-            out.push_str("  OPENED: the bytes follow every rule of a tape\n\n")?;
-            tapes::write_elements(&mut out, tape)?;
-            out.push_str("\n")?;
-            tapes::write_rows(&mut out, tape, rows.as_slice())?;
-            rt.print(out.as_str())?;
+            let found = top_values(rt.alloc(), tape)?;
+            let elements = Elements(tape);
+            let rows = Rows {
+                tape,
+                positions: found.as_slice(),
+            };
+            println!(rt; "  OPENED: the bytes follow every rule of a tape\n\n{elements}")?;
+            rt.print(rows)?;
             Ok(Outcome::Opened)
         }
-        Err(fault) => print_fault(rt, fault),
+        Err(fault) => print_slip(rt, fault),
     }
 }
 
@@ -82,10 +82,15 @@ pub fn tape(rt: &HostRuntime, prefix: &str) -> anyhow::Result<Outcome> {
     let elements = read(rt, prefix, "elements")?;
     let texts = read(rt, prefix, "texts")?;
     let offsets = read(rt, prefix, "offsets")?;
-    match (elements, texts, offsets) {
-        (Some(e), Some(t), Some(o)) => print_tape(rt, e.as_slice(), t.as_slice(), o.as_slice()),
-        _ => Ok(Outcome::Unread),
-    }
+    let (Some(elements), Some(texts), Some(offsets)) = (elements, texts, offsets) else {
+        return Ok(Outcome::Unread);
+    };
+    print_tape(
+        rt,
+        elements.as_slice(),
+        texts.as_slice(),
+        offsets.as_slice(),
+    )
 }
 
 // Prints the schema in two slices.
@@ -94,19 +99,15 @@ fn print_schema<'a>(
     records: &'a [u8],
     names: &'a [u8],
 ) -> anyhow::Result<Outcome> {
-    let mut out = String::new(rt.alloc());
-    sizes::write_records(&mut out, "records", records.len(), 16)?;
-    sizes::write_bytes(&mut out, "names", names.len())?;
-    rt.println(out.as_str())?;
+    rt.println(Records::new("records", records.len(), 16))?;
+    println!(rt; "{}\n", Bytes::new("names", names.len()))?;
     match Schema::open(records, names) {
         Ok(schema) => {
-            let mut out = String::new(rt.alloc());
-            out.push_str("  OPENED: the records hold a tree\n\n")?;
-            schemas::write_nodes(&mut out, schema)?;
-            rt.print(out.as_str())?;
+            let nodes = Nodes(schema);
+            print!(rt; "  OPENED: the records hold a tree\n\n{nodes}")?;
             Ok(Outcome::Opened)
         }
-        Err(fault) => print_fault(rt, fault),
+        Err(fault) => print_slip(rt, fault),
     }
 }
 
@@ -114,8 +115,8 @@ fn print_schema<'a>(
 pub fn schema(rt: &HostRuntime, prefix: &str) -> anyhow::Result<Outcome> {
     let records = read(rt, prefix, "records")?;
     let names = read(rt, prefix, "names")?;
-    match (records, names) {
-        (Some(r), Some(n)) => print_schema(rt, r.as_slice(), n.as_slice()),
-        _ => Ok(Outcome::Unread),
-    }
+    let (Some(records), Some(names)) = (records, names) else {
+        return Ok(Outcome::Unread);
+    };
+    print_schema(rt, records.as_slice(), names.as_slice())
 }

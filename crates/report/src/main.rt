@@ -3,15 +3,15 @@
 
 mod dumps;
 
-use anyhow::anyhow;
+use anyhow::ensure;
 use dumps::Outcome;
-use std::env;
+use std::{env, fmt};
 
 const RULE: &str =
     "--------------------------------------------------------------------------------";
 
 // How many dumps opened, were refused, and could not be read.
-#[derive(Clone, Copy)]
+#[derive(Clone, Copy, Default, PartialEq, Eq)]
 struct Tally {
     opened: usize,
     refused: usize,
@@ -28,20 +28,33 @@ impl Tally {
     }
 }
 
+impl fmt::Display for Tally {
+    fn fmt<W: fmt::Write>(&self, f: &mut fmt::Formatter<W>) -> fmt::Result {
+        let Tally {
+            opened,
+            refused,
+            unread,
+        } = *self;
+        write!(
+            f,
+            "{opened} opened, {refused} refused, {unread} could not be read"
+        )
+    }
+}
+
 // The report on all that has this prefix.
 fn report_on(rt: &HostRuntime, prefix: &str, tally: &mut Tally) -> anyhow::Result<()> {
-    let mut found = false;
-    if dumps::any_there(rt, prefix, &dumps::TAPE)? {
-        found = true;
+    let tape = dumps::any_there(rt, prefix, &dumps::TAPE)?;
+    if tape {
         println!(rt; "\nTAPE {prefix}\n{RULE}")?;
         tally.add(dumps::tape(rt, prefix)?);
     }
-    if dumps::any_there(rt, prefix, &dumps::SCHEMA)? {
-        found = true;
+    let schema = dumps::any_there(rt, prefix, &dumps::SCHEMA)?;
+    if schema {
         println!(rt; "\nSCHEMA {prefix}\n{RULE}")?;
         tally.add(dumps::schema(rt, prefix)?);
     }
-    if !found {
+    if !tape && !schema {
         println!(rt; "\nNOTHING {prefix}\n{RULE}")?;
         println!(rt; "  no file of a tape dump ({prefix}.elements, .texts, .offsets)")?;
         println!(rt; "  and none of a schema dump ({prefix}.records, .names)")?;
@@ -52,27 +65,17 @@ fn report_on(rt: &HostRuntime, prefix: &str, tally: &mut Tally) -> anyhow::Resul
 
 // The report on every prefix that was given.
 fn run(rt: &HostRuntime) -> anyhow::Result<()> {
-    let mut tally = Tally {
-        opened: 0,
-        refused: 0,
-        unread: 0,
-    };
+    let mut tally = Tally::default();
     println!(rt; "FRAME SHELF REPORT")?;
     for prefix in env::args(rt)?.skip(1) {
         report_on(rt, prefix.as_str(), &mut tally)?;
     }
-    let Tally {
-        opened,
-        refused,
-        unread,
-    } = tally;
-    if opened == 0 && refused == 0 && unread == 0 {
-        return Err(anyhow!("nothing to report on: give the prefix of a dump"));
-    }
-    println!(rt; "\n{RULE}\n{opened} opened, {refused} refused, {unread} could not be read")?;
-    if unread > 0 {
-        return Err(anyhow!("not every dump could be read"));
-    }
+    ensure!(
+        tally != Tally::default(),
+        "nothing to report on: give the prefix of a dump"
+    );
+    println!(rt; "\n{RULE}\n{tally}")?;
+    ensure!(tally.unread == 0, "not every dump could be read");
     Ok(())
 }
 

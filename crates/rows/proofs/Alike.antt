@@ -6,7 +6,9 @@ use Rattle.slip.specs.Slips.{slip, Got, refuse, got, then, each}
 use Rattle.octets.specs.Lists.{joined}
 use Rattle.tape.specs.Layout.{the}
 use Rattle.tape.specs.View.{TapeView, is_at, entries, words_at}
-use Rattle.schema.specs.Tree.{Field, Fields, Branch, struct, list, fixed, ◌⊕◌, many, names}
+use Rattle.schema.specs.Tree.{Field, Fields, ◌⊕◌, many, names}
+use Rattle.schema.specs.declared.kind.Branch.{Branch}
+use Rattle.schema.specs.declared.kind.Branch.TheVariants.{Struct as struct, List as list, Fixed as fixed}
 use Rattle.schema.specs.declared.settings.Settings.{Settings}
 use Rattle.names.specs.Lowest.{lowest}
 use Rattle.batch.specs.Rows.{letter, listed, placed, row_at}
@@ -14,7 +16,7 @@ use Rattle.batch.specs.Values.{taken}
 use Rattle.batch.specs.Batch.{branch_column}
 use Rattle.columns.specs.Areas.{written, space}
 use Rattle.rows.specs.declared.Entered.{Entered}
-use Rattle.rows.specs.Entering.{rows_at, items_of, child_at, Given, BranchEntered}
+use Rattle.rows.specs.Entering.{Like, rows_at, items_of, child_at, Given, BranchEntered}
 use Rattle.rows.specs.Kinds.{numbered, named}
 use Rattle.rows.proofs.Tallies.{then_same}
 
@@ -70,19 +72,35 @@ module _ (s : Settings) (t : TapeView) (f h : Field) (same : f.number ≡ h.numb
     pub fixed_alike : (count : ℕ) → row_at s t f (fixed count) cs inForce p ≡ row_at s t h (fixed count) ds inForce p
     fixed_alike count = ap (λ n. row_at s t (numbered n) (fixed count) cs inForce p) same
 
-    pub map_alike : row_at s t f Branch.map cs inForce p ≡ row_at s t h Branch.map ds inForce p
-    map_alike = ap (λ n. row_at s t (numbered n) Branch.map cs inForce p) same
+    pub map_alike : row_at s t f Branch.Map cs inForce p ≡ row_at s t h Branch.Map ds inForce p
+    map_alike = ap (λ n. row_at s t (numbered n) Branch.Map cs inForce p) same
+
+pub many_like : (b : Branch) (cs ds : Fields) → Like b cs ds → many cs ≡ many ds
+many_like struct cs ds e = many-names cs ∙ ap length e ∙ sym (many-names ds)
+many_like (list view wide) cs ds e = e
+many_like (fixed count) cs ds e = e
+many_like Branch.Map cs ds e = e
+
+pub row_alike : (s : Settings) (t : TapeView) (f h : Field) → f.number ≡ h.number → (b : Branch) (cs ds : Fields) → Like b cs ds → (inForce : Bool) (p : ℕ)
+    → row_at s t f b cs inForce p ≡ row_at s t h b ds inForce p
+row_alike s t f h same struct cs ds e inForce p = struct_alike s t f h same cs ds inForce p e
+row_alike s t f h same (list view wide) cs ds e inForce p = list_alike s t f h same cs ds inForce p view wide
+row_alike s t f h same (fixed count) cs ds e inForce p = fixed_alike s t f h same cs ds inForce p count
+row_alike s t f h same Branch.Map cs ds e inForce p = map_alike s t f h same cs ds inForce p
 
 module _ (s : Settings) (t : TapeView) (f h : Field) (b : Branch) (cs ds : Fields) (inForce : Bool) (ps : List ℕ) (top : ℕ) (from to work lent : List ℕ)
-    (same : f.number ≡ h.number) (count : many cs ≡ many ds) (rows : (p : ℕ) → row_at s t f b cs inForce p ≡ row_at s t h b ds inForce p) where
+    (same : f.number ≡ h.number) (like : Like b cs ds) where
   abbrev Rows : Type 0
   Rows = List (Option (List (List ℕ)))
+
+  count : many cs ≡ many ds
+  count = many_like b cs ds like
 
   items : (os : Rows) → items_of b cs os ≡ items_of b ds os
   items os = ap (λ n. joined (map (taken b (replicate n 0)) os)) count
 
   all-rows : rows_at s t f b cs inForce ps ≡ rows_at s t h b ds inForce ps
-  all-rows = each_same (λ p. row_at s t f b cs inForce p) (λ p. row_at s t h b ds inForce p) rows ps
+  all-rows = each_same (λ p. row_at s t f b cs inForce p) (λ p. row_at s t h b ds inForce p) (λ p. row_alike s t f h same b cs ds like inForce p) ps
 
   given : (os : Rows) (e : Entered) → Given t f b cs os top from to lent e → Given t h b ds os top from to lent e
   given os e v = record {

@@ -1,10 +1,11 @@
 -- Positions written into a work list.
-use Rattle.std.proofs.Common.{◌≡◌, ℕ, zero, suc, ◌+◌, ◌-◌, ◌*◌, ◌/◌, ◌%◌, ◌<◌, ◌≤◌, true, ◌≢◌, List, [], ◌∷◌, ◌++◌, length, get_or, take, drop, set, replicate, sym, refl, ap, ◌∙◌, inl, inr, ⊎_elim, mul-le-mul_right, mod-lt, div-lt_iff_lt-mul, add-mul, div-add-mod', zero-mul, arith, rules}
-use Rattle.std.proofs.lemmas.List.{places, same_lists, length-take-le, get_or-take, get_or-set_same, get_or-set_other, get_or_append_left, get_or-append_right, length-append, length-map, get_or-map, get_or_default, get_or-drop, length-drop, drop_more, length-set}
+use Rattle.std.proofs.Common.{◌≡◌, ℕ, zero, suc, ◌+◌, ◌-◌, ◌*◌, ◌/◌, ◌%◌, ◌<◌, ◌≤◌, true, ◌≢◌, List, [], ◌∷◌, ◌++◌, map, length, get_or, drop, set, replicate, sym, refl, ap, ◌∙◌, inl, inr, ⊎_elim, mul-le-mul_right, mod-lt, div-lt_iff_lt-mul, add-mul, div-add-mod', zero-mul, arith, rules}
+use Rattle.std.proofs.lemmas.List.{places, same_lists, get_or-take, get_or-set_same, get_or-set_other, get_or_append_left, get_or-append_right, get_or_push, length-append, length-map, get_or-map, get_or_default, get_or-drop, length-set}
 use Rattle.std.proofs.lemmas.Bool.{cases_lt, cases_eq, cases_order}
 use Rattle.octets.specs.Lists.{part}
+use Rattle.tape.specs.Ahead.{by_twos}
 use Rattle.tape.specs.View.{TapeView, is_position}
-use Rattle.batch.specs.Rows.{singles}
+use Rattle.batch.specs.Rows.{singles, pairs}
 use Rattle.rows.specs.Entering.{child_at}
 use Rattle.rows.specs.Filling.{cell, Filled, Positions, Spread}
 
@@ -23,28 +24,19 @@ one_place s k m i j h l e =
 pub inside : (s k n i : ℕ) → k < n → i < s → k * s + i < n * s
 inside s k n i h l = omega (arith, further s k n h)
 
--- what is ahead in a list
-pub ahead : {A : Type 0} (es : List A) (n : ℕ) (x : A) (rest : List A) (d : A) → drop n es ≡ x ∷ rest → (n < length es) × (get_or es n d ≡ x) × (drop (n + 1) es ≡ rest)
-ahead es n x rest d e =
-    let h : n < length es = omega (arith, ap length e, length-drop n es) in
-    let m : drop n es ≡ get_or es n d ∷ drop (n + 1) es = drop_more es n d h in
-    (h, (cc), (cc))
-
 -- at even distances
-module _ (place step : ℕ) (es A B : List ℕ) (j : ℕ) where
-  pub spread_more : Spread place step (take j es) A B → j < length es → 0 < step → place + j * step < length B → (x : ℕ) → x ≡ get_or es j 0 → Spread place step (take (j + 1) es) A (set B (place + j * step) x)
-  spread_more w h apart room x e =
-      let n : length (take j es) ≡ j = length-take-le j es (omega arith) in
-      let m : length (take (j + 1) es) ≡ j + 1 = length-take-le (j + 1) es (omega arith) in
+module _ (place step : ℕ) (xs A B : List ℕ) (n x : ℕ) where
+  pub spread_more : n ≡ length xs → Spread place step xs A B → 0 < step → place + n * step < length B → Spread place step (xs ++ (x ∷ [])) A (set B (place + n * step) x)
+  spread_more m w apart room =
       record {
         put = λ i l. ⊎_elim
-            (λ q. ap (λ a. get_or (set B (place + j * step) x) (place + a * step) 0) q ∙ get_or-set_same B (place + j * step) x 0 room ∙ e ∙ sym (get_or-take (j + 1) es j 0 (omega arith)) ∙ ap (λ a. get_or (take (j + 1) es) a 0) (sym q))
-            (λ q. let less : i < j = omega arith in
-            let other : place + i * step ≢ place + j * step = λ y. omega (arith, further step i j less) in
-            get_or-set_other B (place + j * step) (place + i * step) x 0 other ∙ w.put i (omega arith) ∙ get_or-take j es i 0 less ∙ sym (get_or-take (j + 1) es i 0 (omega arith)))
-            (cases_eq i j);
+            (λ q. let other : place + i * step ≢ place + n * step = λ y. omega (arith, further step i n q) in
+            get_or-set_other B (place + n * step) (place + i * step) x 0 other ∙ w.put i (omega (arith, m)) ∙ sym (get_or_append_left xs (x ∷ []) 0 i (omega (arith, m))))
+            (λ q. let e : i ≡ n = omega (arith, m, length-append xs (x ∷ [])) in
+            ap (λ a. get_or (set B (place + n * step) x) (place + a * step) 0) e ∙ get_or-set_same B (place + n * step) x 0 room ∙ sym (get_or_push xs x 0 i (omega (arith, m))))
+            (cases_lt i n);
         kept = λ q no.
-            get_or-set_other B (place + j * step) q x 0 (no j (omega arith)) ∙ w.kept q (λ i l. no i (omega arith));
+            get_or-set_other B (place + n * step) q x 0 (no n (omega (arith, m, length-append xs (x ∷ [])))) ∙ w.kept q (λ i l. no i (omega (arith, length-append xs (x ∷ []))));
       }
 
 pub spread_none : (place step : ℕ) (A : List ℕ) → Spread place step [] A A
@@ -127,43 +119,50 @@ module _ (kids stride : ℕ) (items : List (List ℕ)) (A C : List ℕ) (w : Fil
       ap (λ a. is_position t (get_or C a 0)) e ∙ ap (is_position t) (from_first k i ((div-lt_iff_lt-mul pos).1 h) l) ∙ ps i k)
       (cases_eq stride 0)
 
+-- a name and its value, as an item for two children
+abbrev pub both : ℕ × ℕ → List ℕ
+both x = x.0 ∷ (x.1 ∷ [])
+
+pub pairs-both : (es : List ℕ) → pairs es ≡ map both (by_twos es)
+pairs-both [] = refl
+pairs-both (k ∷ []) = refl
+pairs-both (k ∷ (v ∷ rest)) = ap (λ r. (k ∷ (v ∷ [])) ∷ r) (pairs-both rest)
+
 -- two children
-module _ (stride at : ℕ) (ps : List (List ℕ)) (A B : List ℕ) (j x y : ℕ) where
+module _ (stride at : ℕ) (xs : List (List ℕ)) (A B : List ℕ) (n x y : ℕ) where
   abbrev put_both : List ℕ
-  put_both = set (set B (at + j) x) (stride + at + j) y
+  put_both = set (set B (at + n) x) (stride + at + n) y
 
   -- cells that neither write touches
-  untouched : (k i : ℕ) → k < 2 → i < at + j → at + j < stride → cell put_both stride k i ≡ cell B stride k i
+  untouched : (k i : ℕ) → k < 2 → i < at + n → at + n < stride → cell put_both stride k i ≡ cell B stride k i
   untouched k i h l room =
-      let a : k * stride + i ≢ stride + at + j = λ e. ⊎_elim (λ z. omega (arith, ap (λ m. m * stride) z)) (λ z. omega (arith, ap (λ m. m * stride) (let o : k ≡ 1 = omega arith in o))) (cases_eq k 0) in
-      let b : k * stride + i ≢ at + j = λ e. ⊎_elim (λ z. omega (arith, ap (λ m. m * stride) z)) (λ z. omega (arith, ap (λ m. m * stride) (let o : k ≡ 1 = omega arith in o))) (cases_eq k 0) in
-      get_or-set_other (set B (at + j) x) (stride + at + j) (k * stride + i) y 0 a ∙ get_or-set_other B (at + j) (k * stride + i) x 0 b
+      let a : k * stride + i ≢ stride + at + n = λ e. ⊎_elim (λ z. omega (arith, ap (λ m. m * stride) z)) (λ z. omega (arith, ap (λ m. m * stride) (let o : k ≡ 1 = omega arith in o))) (cases_eq k 0) in
+      let b : k * stride + i ≢ at + n = λ e. ⊎_elim (λ z. omega (arith, ap (λ m. m * stride) z)) (λ z. omega (arith, ap (λ m. m * stride) (let o : k ≡ 1 = omega arith in o))) (cases_eq k 0) in
+      get_or-set_other (set B (at + n) x) (stride + at + n) (k * stride + i) y 0 a ∙ get_or-set_other B (at + n) (k * stride + i) x 0 b
 
-  both_there : at + j < stride → 2 * stride ≤ length B → (k : ℕ) → k < 2 → cell put_both stride k (at + j) ≡ get_or (x ∷ (y ∷ [])) k 0
+  both_there : at + n < stride → 2 * stride ≤ length B → (k : ℕ) → k < 2 → cell put_both stride k (at + n) ≡ get_or (x ∷ (y ∷ [])) k 0
   both_there room lent k h =
       ⊎_elim
       (λ z.
-      let p : k * stride + (at + j) ≡ at + j = omega (arith, ap (λ m. m * stride) z) in
-      ap (λ q. get_or put_both q 0) p ∙ get_or-set_other (set B (at + j) x) (stride + at + j) (at + j) y 0 (λ e. omega arith) ∙ get_or-set_same B (at + j) x 0 (omega arith) ∙ ap (λ m. get_or (x ∷ (y ∷ [])) m 0) (sym z))
+      let p : k * stride + (at + n) ≡ at + n = omega (arith, ap (λ m. m * stride) z) in
+      ap (λ q. get_or put_both q 0) p ∙ get_or-set_other (set B (at + n) x) (stride + at + n) (at + n) y 0 (λ e. omega arith) ∙ get_or-set_same B (at + n) x 0 (omega arith) ∙ ap (λ m. get_or (x ∷ (y ∷ [])) m 0) (sym z))
       (λ z.
       let o : k ≡ 1 = omega arith in
-      let p : k * stride + (at + j) ≡ stride + at + j = omega (arith, ap (λ m. m * stride) o) in
-      ap (λ q. get_or put_both q 0) p ∙ get_or-set_same (set B (at + j) x) (stride + at + j) y 0 (omega (arith, length-set B (at + j) x)) ∙ ap (λ m. get_or (x ∷ (y ∷ [])) m 0) (sym o))
+      let p : k * stride + (at + n) ≡ stride + at + n = omega (arith, ap (λ m. m * stride) o) in
+      ap (λ q. get_or put_both q 0) p ∙ get_or-set_same (set B (at + n) x) (stride + at + n) y 0 (omega (arith, length-set B (at + n) x)) ∙ ap (λ m. get_or (x ∷ (y ∷ [])) m 0) (sym o))
       (cases_eq k 0)
 
-  pub pair_more : Filled 2 stride at (take j ps) A B → j < length ps → get_or ps j [] ≡ x ∷ (y ∷ []) → at + j < stride → 2 * stride ≤ length B → Filled 2 stride at (take (j + 1) ps) A put_both
-  pair_more w h e room lent =
-      let n : length (take j ps) ≡ j = length-take-le j ps (omega arith) in
-      let m : length (take (j + 1) ps) ≡ j + 1 = length-take-le (j + 1) ps (omega arith) in
+  pub pair_more : n ≡ length xs → Filled 2 stride at xs A B → at + n < stride → 2 * stride ≤ length B → Filled 2 stride at (xs ++ ((x ∷ (y ∷ [])) ∷ [])) A put_both
+  pair_more m w room lent =
+      let item = x ∷ (y ∷ []) in
       record {
         kept = λ k i a l. untouched k i a (omega arith) room ∙ w.kept k i a l;
         put = λ k i a l. ⊎_elim
             (λ q.
-            ap (λ i. cell put_both stride k (at + i)) q ∙ both_there room lent k a
-            ∙ ap (λ z. get_or z k 0) (sym e ∙ sym (get_or-take (j + 1) ps j [] (omega arith))) ∙ ap (λ i. get_or (get_or (take (j + 1) ps) i []) k 0) (sym q))
-            (λ q.
-            let less : i < j = omega arith in
-            untouched k (at + i) a (omega arith) room ∙ w.put k i a (omega arith)
-            ∙ ap (λ z. get_or z k 0) (get_or-take j ps i [] less ∙ sym (get_or-take (j + 1) ps i [] (omega arith))))
-            (cases_eq i j);
+            untouched k (at + i) a (omega arith) room ∙ w.put k i a (omega (arith, m))
+            ∙ ap (λ z. get_or z k 0) (sym (get_or_append_left xs (item ∷ []) [] i (omega (arith, m)))))
+            (λ q. let e : i ≡ n = omega (arith, m, length-append xs (item ∷ [])) in
+            ap (λ i. cell put_both stride k (at + i)) e ∙ both_there room lent k a
+            ∙ ap (λ z. get_or z k 0) (sym (get_or_push xs item [] i (omega (arith, m)))))
+            (cases_lt i n);
       }

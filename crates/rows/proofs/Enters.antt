@@ -5,7 +5,8 @@ use Rattle.slip.specs.declared.Fault.{Fault}
 use Rattle.slip.specs.Slips.{Got, refuse, got, then, each, slip_of, is_got, accepted}
 use Rattle.octets.specs.Lists.{joined}
 use Rattle.tape.specs.View.{TapeView}
-use Rattle.schema.specs.Tree.{Field, Fields, Branch, many}
+use Rattle.schema.specs.Tree.{Field, Fields, many}
+use Rattle.schema.specs.declared.kind.Branch.{Branch}
 use Rattle.schema.specs.declared.settings.Settings.{Settings}
 use Rattle.batch.specs.Rows.{row_at}
 use Rattle.batch.specs.Values.{taken, zeros}

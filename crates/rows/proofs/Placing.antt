@@ -1,22 +1,28 @@
 -- The values of a struct's row, by field.
-use Rattle.std.proofs.Common.{◌≡◌, ℕ, ◌+◌, ◌*◌, ◌<◌, ◌≤◌, Bool, true, false, cond, List, [], ◌∷◌, length, get_or, set, replicate, Some, None, Option as Maybe, sym, refl, ap, ◌∙◌, subst, inl, inr, ⊎_elim, arith, length-set}
+use Rattle.std.proofs.Common.{◌≡◌, ℕ, ◌+◌, ◌*◌, ◌<◌, ◌≤◌, Bool, true, false, cond, not, List, [], ◌∷◌, length, get_or, set, replicate, Some, None, Option as Maybe, sym, refl, ap, ◌∙◌, subst, inl, inr, ⊎_elim, arith, length-set}
 use mathlib.Core.Option.{some}
 use lib.ListN.{length-replicate}
 use Rattle.std.proofs.lemmas.List.{same_lists, get_or-map, length-map, get_or-set_same, get_or-set_other, get_or_default, set_past}
+use Rattle.std.specs.Prelude.{is_some}
 use Rattle.std.proofs.lemmas.Bool.{cases_eq, cases_lt, cases_order, cases_Bool, lt-ltb, le-ltb, and_parts}
 use Rattle.octets.specs.Lists.{between, all}
 use Rattle.octets.proofs.Pieces.{length-between, between-at}
 use Rattle.slip.specs.Slips.{Slip, slip, Got, refuse, got, then, is_got}
-use Rattle.tape.specs.Opens.{Untorn, view_of}
+use Rattle.tape.specs.Opens.{Untorn}
+use Rattle.tape.specs.Opened.{view_of}
+use Rattle.tape.specs.Ahead.{by_twos}
+use Rattle.tape.specs.Layout.{the}
+use Rattle.tape.specs.Walk.{InTurn}
+use Rattle.tape.proofs.Walks.{object_law}
 use Rattle.tape.specs.View.{TapeView, is_at, is_position, entries, words_at}
 use Rattle.schema.specs.Tree.{Field, many, names}
 use Rattle.schema.specs.declared.settings.Settings.{Settings}
 use Rattle.names.specs.Lowest.{lowest, Lowest}
 use Rattle.names.proofs.Lowests.{always_lowest}
-use Rattle.batch.specs.Rows.{listed, placed}
+use Rattle.batch.specs.Rows.{letter, listed, placed}
 use Rattle.rows.specs.declared.Reading.{Reading}
 use Rattle.rows.specs.Filling.{Spread}
-use Rattle.rows.specs.Kinds.{numbered, named, bracket, row_in}
+use Rattle.rows.specs.Kinds.{numbered, named, row_in}
 use Rattle.rows.specs.Structs.{fieldwise, item_in, column, with_value}
 use Rattle.rows.proofs.Alike.{many-named, names-named}
 use Rattle.rows.proofs.Cells.{further, inside}
@@ -57,6 +63,28 @@ module _ (f : Field) (n p : ℕ) (es : List ℕ) where
       (λ h. absurd (let e = ap is_got (listed_extra h) in let z : ◌≡◌ {A = ℕ} 0 1 = cc in omega arith))
       (λ h. ⊎_elim (λ k. absurd (let e = ap is_got (listed_few k) in let z : ◌≡◌ {A = ℕ} 0 1 = cc in omega arith)) (λ k. omega arith) (cases_lt (length es) n))
       (cases_lt n (length es))
+
+-- what was looked for is found, or it is not
+pub some_found : (x : Maybe ℕ) (b : Bool) → is_some x ≡ not b → b ≡ false → (i : ℕ) × (x ≡ Some i)
+some_found (Some i) b e f = (i, refl)
+some_found None b e f = let z : ◌≡◌ {A = ℕ} 0 1 = ap (λ b. cond b 1 0) (e ∙ ap not f) in absurd (omega arith)
+
+pub none_found : (x : Maybe ℕ) (b : Bool) → is_some x ≡ not b → b ≡ true → x ≡ None
+none_found (Some i) b e f = let z : ◌≡◌ {A = ℕ} 0 1 = ap (λ b. cond b 0 1) (e ∙ ap not f) in absurd (omega arith)
+none_found None b e f = refl
+
+-- the elements of some pairs, and those of an object's pairs
+abbrev pub elements_of : List (ℕ × ℕ) → List ℕ
+elements_of [] = []
+elements_of (x ∷ xs) = x.0 ∷ (x.1 ∷ elements_of xs)
+
+elements-twos : (t : TapeView) (es : List ℕ) → InTurn t es → elements_of (by_twos es) ≡ es
+elements-twos t [] w = refl
+elements-twos t (k ∷ []) w = absurd w
+elements-twos t (k ∷ (v ∷ es)) w = ap (λ r. k ∷ (v ∷ r)) (elements-twos t es w.1)
+
+pub elements-pairs : (t : TapeView) (o : Untorn t) (p : ℕ) → is_position t p ≡ true → is_at t (the "{") p ≡ true → {ps : List (ℕ × ℕ)} → ps ≡ by_twos (entries t p) → elements_of ps ≡ entries t p
+elements-pairs t o p h b e = ap elements_of e ∙ elements-twos t (entries t p) (object_law t o p h b).turns
 
 -- an object's values
 module _ (s : Settings) (t : TapeView) (f : Field) (ns : List (List ℕ)) where
@@ -198,18 +226,18 @@ module _ (s : Settings) (t : TapeView) (f : Field) (ns : List (List ℕ)) (place
 -- the row of a struct
 module _ (r : Reading) (ns : List (List ℕ)) (p : ℕ) where
   abbrev es : List ℕ
-  es = entries (view_of r.tape) p
+  es = entries (view_of r.rows.tape) p
 
   abbrev objects : Got (List ℕ)
-  objects = placed r.settings (view_of r.tape) (numbered r.node) ns es (replicate (length ns) 0)
+  objects = placed r.settings (view_of r.rows.tape) (numbered r.node) ns es (replicate (length ns) 0)
 
-  item-named : (cond r.settings.list_rows (listed (numbered r.node) (many (named ns)) p es) (placed r.settings (view_of r.tape) (numbered r.node) (names (named ns)) es (replicate (many (named ns)) 0)))
+  item-named : (cond r.settings.list_rows (listed (numbered r.node) (many (named ns)) p es) (placed r.settings (view_of r.rows.tape) (numbered r.node) (names (named ns)) es (replicate (many (named ns)) 0)))
       ≡ item_in r ns p
   item-named =
-      ap (λ m. cond r.settings.list_rows (listed (numbered r.node) m p es) (placed r.settings (view_of r.tape) (numbered r.node) (names (named ns)) es (replicate m 0))) (many-named ns)
-      ∙ ap (λ us. cond r.settings.list_rows (listed (numbered r.node) (length ns) p es) (placed r.settings (view_of r.tape) (numbered r.node) us es (replicate (length ns) 0))) (names-named ns)
+      ap (λ m. cond r.settings.list_rows (listed (numbered r.node) m p es) (placed r.settings (view_of r.rows.tape) (numbered r.node) (names (named ns)) es (replicate m 0))) (many-named ns)
+      ∙ ap (λ us. cond r.settings.list_rows (listed (numbered r.node) (length ns) p es) (placed r.settings (view_of r.rows.tape) (numbered r.node) us es (replicate (length ns) 0))) (names-named ns)
 
-  pub struct_there : is_at (view_of r.tape) (bracket r.settings.list_rows) p ≡ true → row_in r fieldwise (named ns) p ≡ then (item_in r ns p) (λ item. got (some (item ∷ [])))
+  pub struct_there : is_at (view_of r.rows.tape) (letter r.settings fieldwise) p ≡ true → row_in r fieldwise (named ns) p ≡ then (item_in r ns p) (λ item. got (some (item ∷ [])))
   struct_there e =
       bracket-there r (named ns) p fieldwise e
       ∙ then-then _ (λ item. got (item ∷ [])) (λ is. got (some is))
@@ -230,23 +258,23 @@ module _ (r : Reading) (ns : List (List ℕ)) (p : ℕ) where
       let z = sym (listed-all (numbered r.node) (length ns) p es m) ∙ sym (item-listed y) ∙ e in
       cc
 
-  module _ (o : Untorn (view_of r.tape)) (h : all (is_position (view_of r.tape)) es ≡ true) (item : List ℕ) (e : item_in r ns p ≡ got item) where
-    pub item_positions : (k : ℕ) → is_position (view_of r.tape) (get_or item k 0) ≡ true
+  module _ (o : Untorn (view_of r.rows.tape)) (h : all (is_position (view_of r.rows.tape)) es ≡ true) (item : List ℕ) (e : item_in r ns p ≡ got item) where
+    pub item_positions : (k : ℕ) → is_position (view_of r.rows.tape) (get_or item k 0) ≡ true
     item_positions k =
         elim (cases_Bool r.settings.list_rows) [
-          | inl y ↦ subst (λ xs. is_position (view_of r.tape) (get_or xs k 0) ≡ true) (item-entries y item e) (position_at (view_of r.tape) o es h k)
-          | inr y ↦ placed_positions r.settings (view_of r.tape) (numbered r.node) ns es (replicate (length ns) 0) item h (λ j. zeros_position (view_of r.tape) o (length ns) j) (sym (item-placed y) ∙ e) k
+          | inl y ↦ subst (λ xs. is_position (view_of r.rows.tape) (get_or xs k 0) ≡ true) (item-entries y item e) (position_at (view_of r.rows.tape) o es h k)
+          | inr y ↦ placed_positions r.settings (view_of r.rows.tape) (numbered r.node) ns es (replicate (length ns) 0) item h (λ j. zeros_position (view_of r.rows.tape) o (length ns) j) (sym (item-placed y) ∙ e) k
         ]
 
     pub item-length : length item ≡ length ns
     item-length =
         elim (cases_Bool r.settings.list_rows) [
           | inl y ↦ ap length (sym (item-entries y item e)) ∙ item_count y (ap is_got e)
-          | inr y ↦ placed-length r.settings (view_of r.tape) (numbered r.node) ns es (replicate (length ns) 0) item h (sym (item-placed y) ∙ e) ∙ length-replicate {A = ℕ} (length ns) 0
+          | inr y ↦ placed-length r.settings (view_of r.rows.tape) (numbered r.node) ns es (replicate (length ns) 0) item h (sym (item-placed y) ∙ e) ∙ length-replicate {A = ℕ} (length ns) 0
         ]
 
   -- the row's one item
-  module _ (begun : is_at (view_of r.tape) (bracket r.settings.list_rows) p ≡ true) where
+  module _ (begun : is_at (view_of r.rows.tape) (letter r.settings fieldwise) p ≡ true) where
     pub row-item : (item : List ℕ) → item_in r ns p ≡ got item → row_in r fieldwise (named ns) p ≡ got (some (item ∷ []))
     row-item item e = struct_there begun ∙ ap (λ x. then x (λ item. got (some (item ∷ [])))) e
 

@@ -1,22 +1,24 @@
 -- What is told of a row, and what a row of each kind gives.
-use Rattle.std.proofs.Common.{◌≡◌, ℕ, zero, suc, ◌+◌, ◌-◌, ◌/◌, ◌^◌, ◌<◌, ◌≤◌, Bool, true, false, cond, List, [], ◌∷◌, ◌++◌, length, get_or, drop, replicate, sym, refl, ap, ◌∙◌, subst, ⊎_elim, arith}
+use Rattle.std.proofs.Common.{◌≡◌, ℕ, zero, suc, ◌-◌, ◌/◌, ◌^◌, ◌≤◌, Bool, true, false, cond, not, List, [], ◌∷◌, ◌++◌, length, get_or, replicate, sym, refl, ap, ◌∙◌, subst, ⊎_elim, arith}
 use mathlib.Core.Option.{Option, some}
 use Rattle.std.proofs.lemmas.List.{get_or_past, get_or-map, length-map, get_or-replicate, length-replicate, get_or_append_left, get_or-append_right}
 use Rattle.std.proofs.lemmas.Bool.{cases_lt, cases_eq, eq-eqb, ne_eqb, and_parts}
-use Rattle.octets.specs.Lists.{all}
-use Rattle.slip.specs.Slips.{Slip, slip, refuse, got, then, is_got, accepted}
-use Rattle.tape.specs.Layout.{the, number_at, next_at}
-use Rattle.tape.specs.Opens.{Untorn, view_of}
+use Rattle.octets.specs.Lists.{all, is_some}
+use Rattle.slip.specs.Slips.{Slip, slip, Got, refuse, got, then, is_got, accepted}
+use Rattle.tape.specs.Layout.{the}
+use Rattle.tape.specs.Opens.{Untorn}
+use Rattle.tape.specs.Opened.{view_of}
 use Rattle.tape.specs.View.{TapeView, is_at, is_position, entries}
-use Rattle.tape.specs.Walk.{Bracketed, Steps, PairSteps, onward}
-use Rattle.tape.proofs.Walks.{list_law, object_law, first_law, all-at, onward_pair}
-use Rattle.schema.specs.Tree.{Branch, Fields, fixed}
+use Rattle.tape.specs.Walk.{Bracketed}
+use Rattle.tape.proofs.Walks.{list_law, object_law, first_law, all-at}
+use Rattle.schema.specs.Tree.{Fields}
+use Rattle.schema.specs.declared.kind.Branch.{Branch}
+use Rattle.schema.specs.declared.kind.Branch.TheVariants.{Fixed as fixed}
 use Rattle.batch.specs.Rows.{singles, pairs}
 use Rattle.batch.specs.Values.{taken, zeros}
 use Rattle.rows.specs.declared.Reading.{Reading}
-use Rattle.rows.specs.Kinds.{bracket, begins_at, row_in, row_size, row_there, items_in}
+use Rattle.rows.specs.Kinds.{begins_at, row_in, row_size, row_there, items_in}
 use Rattle.rows.specs.Filling.{Filled, Positions}
-use Rattle.rows.proofs.Cells.{ahead}
 use Rattle.rows.proofs.Starts.{bracket-there}
 
 module _ (r : Reading) (b : Branch) (cs : Fields) (p : ℕ) where
@@ -25,6 +27,12 @@ module _ (r : Reading) (b : Branch) (cs : Fields) (p : ℕ) where
 
   pub said_refused : (s : Slip) → row_in r b cs p ≡ refuse s → refuse s ≡ then (row_in r b cs p) (λ o. got (row_size b cs o))
   said_refused s e = ap (λ x. then x (λ o. got (row_size b cs o))) (sym e)
+
+  pub count_got : (o : Option (List (List ℕ))) → row_in r b cs p ≡ got o → got (length (taken b (zeros cs) o)) ≡ then (row_in r b cs p) (λ o. got (length (taken b (zeros cs) o)))
+  count_got o e = ap (λ x. then x (λ o. got (length (taken b (zeros cs) o)))) (sym e)
+
+  pub count_refused : (s : Slip) → row_in r b cs p ≡ refuse s → refuse s ≡ then (row_in r b cs p) (λ o. got (length (taken b (zeros cs) o)))
+  count_refused s e = ap (λ x. then x (λ o. got (length (taken b (zeros cs) o)))) (sym e)
 
   pub there_got : (o : Option (List (List ℕ))) → row_in r b cs p ≡ got o → row_there r b cs p ≡ o
   there_got o e = ap accepted e
@@ -44,8 +52,8 @@ module _ (r : Reading) (b : Branch) (cs : Fields) (p : ℕ) (o : Option (List (L
   positions_there t f = subst (Positions t) (sym items_there) f
 
 -- a row that begins as it should has its bracket
-pub begins_bracket : (r : Reading) (l : Bool) (p : ℕ) → begins_at r l p ≡ got true → is_at (view_of r.tape) (bracket l) p ≡ true
-begins_bracket r l p e = pick (is_at (view_of r.tape) (bracket l) p) _ (slip 5 r.node p) e
+pub begins_bracket : (r : Reading) (l p : ℕ) → begins_at r l p ≡ got true → is_at (view_of r.rows.tape) l p ≡ true
+begins_bracket r l p e = pick (is_at (view_of r.rows.tape) l p) _ (slip 5 r.node p) e
   where
     pick : (x y : Bool) (s : Slip) → cond x (got true) (cond y (got false) (refuse s)) ≡ got true → x ≡ true
     pick true y s e = refl
@@ -108,15 +116,15 @@ append_positions t xs ys v w i k =
 -- the entries of a list row
 module _ (r : Reading) (cs : Fields) (p n : ℕ) where
   abbrev es : List ℕ
-  es = entries (view_of r.tape) p
+  es = entries (view_of r.rows.tape) p
 
-  pub fixed_there : is_at (view_of r.tape) (the "[") p ≡ true → length es ≡ n → row_in r (fixed n) cs p ≡ got (some (singles es))
+  pub fixed_there : is_at (view_of r.rows.tape) (the "[") p ≡ true → length es ≡ n → row_in r (fixed n) cs p ≡ got (some (singles es))
   fixed_there e m = bracket-there r cs p (fixed n) e ∙ ap (λ x. then (cond x (got (singles es)) (refuse (slip 9 r.node p))) (λ is. got (some is))) (eq-eqb (length es) n m)
 
-  pub fixed_wrong : is_at (view_of r.tape) (the "[") p ≡ true → (length es ≡ n → ⊥) → row_in r (fixed n) cs p ≡ refuse (slip 9 r.node p)
+  pub fixed_wrong : is_at (view_of r.rows.tape) (the "[") p ≡ true → (length es ≡ n → ⊥) → row_in r (fixed n) cs p ≡ refuse (slip 9 r.node p)
   fixed_wrong e m = bracket-there r cs p (fixed n) e ∙ ap (λ x. then (cond x (got (singles es)) (refuse (slip 9 r.node p))) (λ is. got (some is))) (ne_eqb (length es) n m)
 
-  pub fixed_count : is_at (view_of r.tape) (the "[") p ≡ true → is_got (row_in r (fixed n) cs p) ≡ true → length es ≡ n
+  pub fixed_count : is_at (view_of r.rows.tape) (the "[") p ≡ true → is_got (row_in r (fixed n) cs p) ≡ true → length es ≡ n
   fixed_count e g = ⊎_elim (λ m. m) (λ m. absurd (let f = ap is_got (fixed_wrong e m) in let z : ◌≡◌ {A = ℕ} 0 1 = cc in omega arith)) (cases_eq (length es) n)
 
 -- the pairs of a map row
@@ -128,31 +136,21 @@ length_pairs (k ∷ (v ∷ es)) = omega (arith, length_pairs es)
 pub pairs_positions : (t : TapeView) → Untorn t → (es : List ℕ) → all (is_position t) es ≡ true → Positions t (pairs es)
 pairs_positions t o [] h i k = zero_position t o
 pairs_positions t o (a ∷ []) h i k = zero_position t o
-pairs_positions t o (a ∷ (b ∷ es)) h zero zero = (and_parts (is_position t a) _ h).0
-pairs_positions t o (a ∷ (b ∷ es)) h zero (suc zero) = (and_parts (is_position t b) _ (and_parts (is_position t a) _ h).1).0
-pairs_positions t o (a ∷ (b ∷ es)) h zero (suc (suc k)) = zero_position t o
-pairs_positions t o (a ∷ (b ∷ es)) h (suc i) k = pairs_positions t o es (and_parts (is_position t b) _ (and_parts (is_position t a) _ h).1).1 i k
-
--- the pair that is ahead
-pub pair_front : (t : TapeView) (es : List ℕ) (name end n : ℕ) → drop n (pairs es) ≡ pairs (onward t name end) → name < end → PairSteps t name end
-    → (n < length (pairs es)) × (get_or (pairs es) n [] ≡ name ∷ ((name + 1) ∷ [])) × (drop (n + 1) (pairs es) ≡ pairs (onward t (next_at t.elements (name + 1)) end))
-pair_front t es name end n e h s = ahead (pairs es) n (name ∷ ((name + 1) ∷ [])) _ [] (e ∙ ap pairs (onward_pair t h s))
-
--- where the walk of a list's entries begins, and that of an object's pairs
-module _ (t : TapeView) (o : Untorn t) (p n : ℕ) (h : is_position t p ≡ true) (e : n ≡ next_at t.elements p) where
-  pub list_start : is_at t (the "[") p ≡ true → Steps t (p + 1) (n - 1) × (entries t p ≡ onward t (p + 1) (n - 1))
-  list_start l =
-      let b = list_law t o p h l in
-      let m : number_at t.elements p ≡ n - 1 = omega (arith, e, b.next) in
-      (subst (λ q. Steps t (p + 1) q) m b.way, b.all_steps ∙ ap (onward t (p + 1)) m)
-
-  pub object_start : is_at t (the "{") p ≡ true → PairSteps t (p + 1) (n - 1) × (entries t p ≡ onward t (p + 1) (n - 1))
-  object_start l =
-      let b = object_law t o p h l in
-      let m : number_at t.elements p ≡ n - 1 = omega (arith, e, b.bracketed.next) in
-      (subst (λ q. PairSteps t (p + 1) q) m b.pairs, b.bracketed.all_steps ∙ ap (onward t (p + 1)) m)
+pairs_positions t o (a ∷ (b ∷ _)) h zero zero = (and_parts (is_position t a) _ h).0
+pairs_positions t o (a ∷ (b ∷ _)) h zero (suc zero) = (and_parts (is_position t b) _ (and_parts (is_position t a) _ h).1).0
+pairs_positions t o (a ∷ (b ∷ _)) h zero (suc (suc k)) = zero_position t o
+pairs_positions t o (a ∷ (b ∷ rest)) h (suc i) k = pairs_positions t o rest (and_parts (is_position t b) _ (and_parts (is_position t a) _ h).1).1 i k
 
 -- the entries of either are positions
-pub entries_positions : (t : TapeView) → Untorn t → (p : ℕ) → is_position t p ≡ true → (l : Bool) → is_at t (bracket l) p ≡ true → all (is_position t) (entries t p) ≡ true
+pub entries_positions : (t : TapeView) → Untorn t → (p : ℕ) → is_position t p ≡ true → (l : Bool) → is_at t (cond l (the "[") (the "{")) p ≡ true → all (is_position t) (entries t p) ≡ true
 entries_positions t o p h true e = (list_law t o p h e).positions
 entries_positions t o p h false e = (object_law t o p h e).bracketed.positions
+
+-- a row that begins as it should is not null
+pub some_got : {X : Type 0} (x : Got X) (o : Option X) → then x (λ is. got (some is)) ≡ got o → not (is_some o) ≡ false
+some_got (refuse s) o e = absurd (let z : ◌≡◌ {A = ℕ} 0 1 = cc in omega arith)
+some_got (got is) o e = let q : some is ≡ o = cc in ap (λ o. not (is_some o)) (sym q)
+
+pub some_there : {X : Type 0} (x : Got X) (o : Got (Option X)) → o ≡ then x (λ is. got (some is)) → is_got o ≡ true → not (is_some (accepted o)) ≡ false
+some_there (refuse s) o e g = absurd (let f = ap is_got (sym e) ∙ g in let z : ◌≡◌ {A = ℕ} 0 1 = cc in omega arith)
+some_there (got is) o e g = ap (λ o. not (is_some (accepted o))) e

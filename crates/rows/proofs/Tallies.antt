@@ -5,7 +5,8 @@ use mir.Val.{bool_byte}
 use Rattle.std.proofs.lemmas.List.{at_drop_more, at_drop_all, map_more, append-nil, take-append-drop, map-append, length-append}
 use Rattle.octets.specs.Lists.{joined, is_some}
 use Rattle.octets.proofs.Pieces.{joined-append}
-use Rattle.schema.specs.Tree.{Branch, Fields}
+use Rattle.schema.specs.Tree.{Fields}
+use Rattle.schema.specs.declared.kind.Branch.{Branch}
 use Rattle.slip.specs.Slips.{Slip, Got, refuse, got, then, each, is_got, accepted}
 use Rattle.batch.specs.Values.{taken, zeros}
 use Rattle.batch.specs.Batch.{nulls}

@@ -5,7 +5,9 @@ use Rattle.slip.specs.declared.Fault.{Fault}
 use Rattle.slip.specs.Slips.{Got, got, then, each, answer_of}
 use Rattle.octets.specs.Lists.{part, joined}
 use Rattle.tape.specs.View.{TapeView, is_position}
-use Rattle.schema.specs.Tree.{Field, Fields, Branch, many}
+use Rattle.schema.specs.Tree.{Field, Fields, many, names}
+use Rattle.schema.specs.declared.kind.Branch.{Branch}
+use Rattle.schema.specs.declared.kind.Branch.TheVariants.{Struct as struct, List as list, Fixed as fixed}
 use Rattle.schema.specs.declared.settings.Settings.{Settings}
 use Rattle.batch.specs.Rows.{row_at}
 use Rattle.batch.specs.Values.{taken, zeros}
@@ -34,6 +36,13 @@ pub record Given (t : TapeView) (f : Field) (b : Branch) (cs : Fields) (rows : L
   pub parts : (k : ℕ) → k < many cs → part lent (k * e.stride) e.stride ≡ child_at k (items_of b cs rows)
   pub positions : (i : ℕ) → i < e.kids * e.stride → is_position t (slice_index lent i) ≡ true
   pub page : to ≡ written from f.number top (branch_column b rows ∷ [])
+
+-- children of which a branch makes the same: of a struct's the names count, and else how many there are
+abbrev pub Like : Branch → Fields → Fields → Type 0
+Like struct cs ds = names cs ≡ names ds
+Like (list view wide) cs ds = many cs ≡ many ds
+Like (fixed count) cs ds = many cs ≡ many ds
+Like Branch.Map cs ds = many cs ≡ many ds
 
 abbrev pub next_of : Result Entered Fault → Result ℕ Fault
 next_of (Ok e) = Ok e.next

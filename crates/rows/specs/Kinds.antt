@@ -4,13 +4,14 @@ use Rattle.std.proofs.Math.Option.{Option}
 use Rattle.octets.specs.Lists.{is_some}
 use Rattle.slip.specs.Slips.{slip, Got, refuse, got, accepted}
 use Rattle.tape.specs.Layout.{the}
-use Rattle.tape.specs.Opens.{view_of}
+use Rattle.tape.specs.Opened.{view_of}
 use Rattle.tape.specs.View.{is_at}
-use Rattle.schema.specs.Tree.{Field, Fields, Branch, LeafKind, leaf, ◌⊕◌}
+use Rattle.schema.specs.Tree.{Field, Fields, leaf, ◌⊕◌}
+use Rattle.schema.specs.declared.kind.Branch.{Branch}
+use Rattle.schema.specs.declared.kind.LeafKind.{LeafKind}
 use Rattle.batch.specs.Rows.{row_at}
 use Rattle.batch.specs.Values.{taken, zeros}
 use Rattle.batch.specs.Batch.{nulls as nulls_of}
-use Rattle.columns.specs.Areas.{branch_of}
 use Rattle.columns.specs.Plans.{bytes_of}
 use Rattle.columns.specs.Spans.{Suits, Laid}
 use Rattle.columns.specs.declared.spans.Spans.{Spans}
@@ -26,22 +27,18 @@ numbered n = record { number = n; name = []; nullable = false }
 -- fields of which only the names are known
 abbrev pub named : List (List ℕ) → Fields
 named [] = Fields.none
-named (n ∷ ns) = leaf (record { number = 0; name = n; nullable = false }) LeafKind.null ⊕ named ns
-
--- the bracket that a list's rows, or else an object's, begin with
-abbrev pub bracket : (list : Bool) → ℕ
-bracket list = cond list (the "[") (the "{")
+named (n ∷ ns) = leaf (record { number = 0; name = n; nullable = false }) LeafKind.Null ⊕ named ns
 
 -- whether a row begins as it should, or is null, or is refused
-abbrev pub begins_at : Reading → (list : Bool) → ℕ → Got Bool
-begins_at r list p =
-    let t = view_of r.tape in
-    cond (is_at t (bracket list) p) (got true)
+abbrev pub begins_at : Reading → (bracket : ℕ) → ℕ → Got Bool
+begins_at r bracket p =
+    let t = view_of r.rows.tape in
+    cond (is_at t bracket p) (got true)
     (cond (r.in_force && (is_at t (the "z") p || r.settings.lenient)) (got false) (refuse (slip 5 r.node p)))
 
 -- the row at a position
 unfoldable pub row_in : Reading → Branch → Fields → ℕ → Got (Option (List (List ℕ)))
-row_in r b cs p = row_at r.settings (view_of r.tape) (numbered r.node) b cs r.in_force p
+row_in r b cs p = row_at r.settings (view_of r.rows.tape) (numbered r.node) b cs r.in_force p
 
 -- the row at a position where it is not refused, and the items that it has in the children
 abbrev pub row_there : Reading → Branch → Fields → ℕ → Option (List (List ℕ))
@@ -60,7 +57,7 @@ counts_of b cs os = record { items = length (items_of b cs os); nulls = nulls_of
 
 -- spans that were made for these rows of a branch, and nothing of them is written yet
 pub record Suited (width : ℕ) (b : Branch) (s : Spans) (out : List ℕ) (os : List (Option (List (List ℕ)))) : Type 0 where
-  pub shape : branch_of s.shape ≡ b
+  pub branch : s.branch ≡ b
   pub suits : Suits width b
   pub laid : Laid s
   pub slots : length os ≡ s.plan.slots

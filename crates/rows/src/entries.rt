@@ -1,7 +1,7 @@
 // The entries of a list, and zeros, written into the work list at even distances.
 ghost use Rattle.std.specs.Prelude.{◌≡◌, ℕ, ◌+◌, ◌*◌, ◌<◌, true, length, replicate};
 ghost use Rattle.tape.specs.Layout.{the};
-ghost use Rattle.tape.specs.Opens.{Opened, view_of};
+ghost use Rattle.tape.specs.Opened.{view_of};
 ghost use Rattle.tape.specs.View.{is_at, is_position, entries};
 ghost use Rattle.rows.specs.Filling.{Spread};
 
@@ -15,7 +15,6 @@ pub(crate) fn put_entries(
     from: usize,
     step: usize,
 ) -> usize
-    requires opened { Opened tape }
     requires position { is_position (view_of tape) p ≡ true }
     requires list { is_at (view_of tape) (the "[") p ≡ true }
     requires room { (j : ℕ) → j < length (entries (view_of tape) p) → from + j * step < length work.old }
@@ -23,13 +22,10 @@ pub(crate) fn put_entries(
     ensures count { result ≡ length (entries (view_of tape.entry) p) }
     ensures spread { Spread from step (entries (view_of tape.entry) p) work.old work.new }
 {
-    let end = tape.next(p) - 1;
-    let mut at = p + 1;
     let mut n = 0;
-    while at < end {
+    for at in tape.entries(p) {
         work[from + n * step] = at;
         n += 1;
-        at = tape.next(at);
     }
     n
 }

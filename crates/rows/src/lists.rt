@@ -1,19 +1,20 @@
 // The rows of a list, a list-view and a fixed-size list.
 ghost use Rattle.std.specs.Prelude.{◌^◌, ◌≤◌, false, [], ◌∷◌};
-ghost use Rattle.schema.specs.Tree.{list, fixed};
+ghost use Rattle.schema.specs.declared.kind.Branch.TheVariants.{List as list, Fixed as fixed};
 ghost use Rattle.rows.specs.Kinds.{named};
 
 use crate::Reading;
 use crate::entries::{put_entries, put_zeros};
-use crate::kind::{Row, RowKind, begins, is_bracket};
-use columns::shape::Shape;
+use crate::kind::RowKind;
+use schema::kind::Branch;
+use schema::settings::Settings;
 use slip::Fault;
 
-// The rows of a list or a list-view: a null row takes nothing.
-#[derive(Clone, Copy)]
-pub(crate) struct ListRows {
-    pub(crate) view: bool,
-    pub(crate) wide: bool,
+// The rows of a list or a list-view take all their entries, a null row none.
+#[derive(Clone, Copy, PartialEq, Eq, Debug)]
+pub struct ListRows {
+    pub view: bool,
+    pub wide: bool,
 }
 
 impl RowKind for ListRows {
@@ -23,11 +24,10 @@ impl RowKind for ListRows {
 
     ghost ready = { λ _. Unit {0} };
 
-    fn shape(&self) -> Shape {
-        if self.view {
-            Shape::View { wide: self.wide }
-        } else {
-            Shape::ListOf { wide: self.wide }
+    fn branch(&self) -> Branch {
+        Branch::List {
+            view: self.view,
+            wide: self.wide,
         }
     }
 
@@ -35,44 +35,36 @@ impl RowKind for ListRows {
         1
     }
 
-    fn check(&self, reading: Reading<'_>, p: u32) -> Result<Row, Fault> {
-        if begins(reading, true, p)? {
-            Ok(Row {
-                null: false,
-                items: reading.tape.entry_count(p),
-            })
-        } else {
-            Ok(Row {
-                null: true,
-                items: 0,
-            })
-        }
+    fn bracket(&self, _settings: Settings) -> char {
+        '['
     }
 
-    fn fill(
+    fn count(&self, reading: Reading<'_>, p: u32) -> Result<usize, Fault> {
+        Ok(reading.rows.tape.entry_count(p))
+    }
+
+    fn put(
         &self,
         reading: Reading<'_>,
         p: u32,
         work: &mut [u32],
         _stride: usize,
         at: usize,
-    ) -> Row {
-        if is_bracket(reading.tape, true, p) {
-            let items = put_entries(reading.tape, p, work, at, 1);
-            Row { null: false, items }
-        } else {
-            Row {
-                null: true,
-                items: 0,
-            }
-        }
+    ) -> usize {
+        put_entries(reading.rows.tape, p, work, at, 1)
     }
+
+    fn hides(&self) -> usize {
+        0
+    }
+
+    fn put_null(&self, _work: &mut [u32], _stride: usize, _at: usize) {}
 }
 
-// The rows of a fixed-size list: a null row takes as many zeros as another takes entries.
-#[derive(Clone, Copy)]
-pub(crate) struct FixedRows {
-    pub(crate) count: usize,
+// The rows of a fixed-size list have exactly `count` entries; a null row takes as many zeros.
+#[derive(Clone, Copy, PartialEq, Eq, Debug)]
+pub struct FixedRows {
+    pub count: usize,
 }
 
 impl RowKind for FixedRows {
@@ -82,50 +74,44 @@ impl RowKind for FixedRows {
 
     ghost ready = { λ s. s.count ≤ 2 ^ 24 };
 
-    fn shape(&self) -> Shape {
-        Shape::Fixed { count: self.count }
+    fn branch(&self) -> Branch {
+        Branch::Fixed { count: self.count }
     }
 
     fn kids(&self) -> usize {
         1
     }
 
-    fn check(&self, reading: Reading<'_>, p: u32) -> Result<Row, Fault> {
-        if !begins(reading, true, p)? {
-            return Ok(Row {
-                null: true,
-                items: self.count,
-            });
-        }
-        if reading.tape.entry_count(p) != self.count {
+    fn bracket(&self, _settings: Settings) -> char {
+        '['
+    }
+
+    fn count(&self, reading: Reading<'_>, p: u32) -> Result<usize, Fault> {
+        if reading.rows.tape.entry_count(p) != self.count {
             return Err(Fault::WrongCount {
                 node: reading.node,
                 row: p,
             });
         }
-        Ok(Row {
-            null: false,
-            items: self.count,
-        })
+        Ok(self.count)
     }
 
-    fn fill(
+    fn put(
         &self,
         reading: Reading<'_>,
         p: u32,
         work: &mut [u32],
         _stride: usize,
         at: usize,
-    ) -> Row {
-        if is_bracket(reading.tape, true, p) {
-            let items = put_entries(reading.tape, p, work, at, 1);
-            Row { null: false, items }
-        } else {
-            put_zeros(work, at, 1, self.count);
-            Row {
-                null: true,
-                items: self.count,
-            }
-        }
+    ) -> usize {
+        put_entries(reading.rows.tape, p, work, at, 1)
+    }
+
+    fn hides(&self) -> usize {
+        self.count
+    }
+
+    fn put_null(&self, work: &mut [u32], _stride: usize, at: usize) {
+        put_zeros(work, at, 1, self.count);
     }
 }

@@ -1,18 +1,22 @@
 -- The nodes of a tree that records hold.
-use Rattle.std.proofs.Common.{◌≡◌, ℕ, zero, suc, ◌+◌, ◌-◌, ◌<◌, ◌≤◌, Bool, true, false, eqb, List, ◌∷◌, ◌++◌, map as mapped, length, get_or, sym, refl, ap, ◌∙◌, subst, arith, length-append}
+use Rattle.std.proofs.Common.{◌≡◌, ℕ, zero, suc, ◌+◌, ◌-◌, ◌<◌, ◌≤◌, Bool, true, false, eqb, eqb-true, eq-eqb, Some, None, Option, Decides, List, ◌∷◌, ◌++◌, map as mapped, length, get_or, sym, refl, ap, ◌∙◌, subst, arith, length-append}
 use native.Mathlib.Decide.{dec_lt}
 use Rattle.std.specs.List.{AllByRecursion}
+use Rattle.std.specs.Option.{option_eq}
+use Rattle.std.proofs.lemmas.Bool.{false≢true}
 use Rattle.std.proofs.lemmas.List.{map-append, get_or_append_left, get_or-append_right}
 use Rattle.std.proofs.ByRecursion.{All-append}
 use Rattle.octets.specs.Lists.{between}
-use Rattle.schema.specs.Tree.{Node, branch, leaf, Fields, ◌⊕◌, field_of, children_of, nodes, nodes_in, node_at, Childed}
+use Rattle.schema.specs.Tree.{Node, branch, leaf, Fields, ◌⊕◌, field_of, kind_of, children_of, nodes, nodes_in, node_at, Childed}
 use Rattle.schema.specs.Layout.{record_count, end_at}
 use Rattle.schema.specs.Held.{Limited, bit, Written, Held, HeldIn}
 use Rattle.schema.specs.Held.Held.{node}
 use Rattle.schema.specs.Held.HeldIn.{nothing, more}
 use Rattle.schema.specs.Opens.{Opens, OneTree, AllFormed, AllHeld}
-use Rattle.schema.specs.Checks.{TreeTo, Rooted}
-use Rattle.schema.proofs.Trees.{same_tree, bit-same}
+use Rattle.schema.specs.Checks.{Finds, KindAt, TreeTo, Rooted}
+use Rattle.schema.specs.OneTree.{same_tree, bit-same}
+use Rattle.schema.proofs.Trees.{written_kinded}
+use Rattle.schema.proofs.Rows.{same_end}
 
 -- a node before those below it
 nodes_is : (t : Node) → nodes t ≡ t ∷ nodes_in (children_of t)
@@ -37,6 +41,9 @@ held_first (more t ts) = t
 
 pub held_rest : {rs ns : List ℕ} {i : ℕ} {c : Node} {cs : Fields} → HeldIn rs ns i (c ⊕ cs) → HeldIn rs ns (end_at rs i) cs
 held_rest {rs} {ns} {i} {c} {cs} (more t ts) = subst (λ x. HeldIn rs ns x cs) (sym (held_written t).end) ts
+
+pub kind_there : {rs ns : List ℕ} {i : ℕ} {t : Node} → Held rs ns i t → KindAt rs i (kind_of t)
+kind_there h = written_kinded (held_written h) (held_limited h)
 
 -- a node's end is past it, and no further than the records
 mutual
@@ -142,3 +149,7 @@ opened r t e =
         shallow = t.shallow;
       },
     )
+
+pub tree_found : {rs ns : List ℕ} → Rooted rs → (r : Option ℕ) → Finds (TreeTo rs ns 16 0) r → (n : ℕ) → n ≡ record_count rs → Decides (option_eq eqb r (Some n)) ((root : Node) × Opens rs ns root)
+tree_found g (Some e) h n k = ((λ b. opened g h (eqb-true _ _ b ∙ k)), λ o. eq-eqb _ _ (same_end h (opens_tree o.1) ∙ sym k))
+tree_found g None h n k = ((λ b. absurd (false≢true b)), λ o. absurd (h _ (opens_tree o.1)))

@@ -1,17 +1,31 @@
 -- Trees that stand one after another.
-use Rattle.std.proofs.Common.{◌≡◌, ℕ, zero, suc, ◌+◌, ◌-◌, ◌<◌, ◌≤◌, true, false, eqb, List, length, Some, None, Option, sym, refl, ap, ◌∙◌, subst, arith, length-append}
+use Rattle.std.proofs.Common.{◌≡◌, ℕ, zero, suc, ◌+◌, ◌-◌, ◌<◌, ◌≤◌, Bool, true, false, eqb, eqb-true, eq-eqb, List, length, Some, None, Option, sym, refl, ap, ◌∙◌, subst, arith, length-append}
+use Rattle.std.specs.Bool.{then_some}
+use Rattle.std.specs.Option.{IsSome}
+use Rattle.std.proofs.lemmas.Bool.{false≢true}
+use Rattle.schema.specs.declared.kind.Kind.{Kind}
 use Rattle.schema.specs.Tree.{Field, LeafKind, text, boolean, custom, Branch, struct, list, fixed, Node, branch, leaf, Fields, ◌⊕◌, field_of, children_of, many, nodes, nodes_in, levels, levels_in, Childed}
-use Rattle.schema.specs.Layout.{flag_at, end_at, name_at}
-use Rattle.schema.specs.Held.{letter_of, wide_of, count_of, Limited, bit, Held, HeldIn}
+use Rattle.schema.specs.Layout.{flag_at, end_at, name_at, count_at}
+use Rattle.schema.specs.Held.{letter_of, wide_of, count_of, many_for, Limited, bit, Held, HeldIn}
 use Rattle.schema.specs.Held.Held.{node}
 use Rattle.schema.specs.Held.HeldIn.{nothing, more}
 use Rattle.schema.specs.Checks.{Finds, Kinded, Fit, TreeTo}
 use Rattle.schema.specs.Checks.Kinded.{struct', fixed', list', view', map', text', boolean', null', custom'}
-use Rattle.schema.proofs.Trees.{same_tree, kinded_many, written_fit}
+use Rattle.schema.specs.OneTree.{same_tree}
+use Rattle.schema.proofs.Trees.{kinded_one, written_fit}
 
-pub finds_both : {P Q : ℕ → Type 0} (r : Option ℕ) → ((k : ℕ) → P k → Q k) → ((k : ℕ) → Q k → P k) → Finds P r → Finds Q r
-finds_both (Some k) to from h = to k h
-finds_both None to from h = λ k q. h k (from k q)
+-- what P holds of is found
+pub finds_some : {A : Type 0} (P : A → Type 0) (r : Option A) (k : A) → Finds P r → P k → IsSome r
+finds_some P (Some j) k h p = refl
+finds_some P None k h p = absurd (h k p)
+
+-- an answer that is given where two numbers are equal
+pub finds_then : {A : Type 0} (P : A → Type 0) (a b : ℕ) {k : A} → (a ≡ b → P k) → ((j : A) → P j → a ≡ b) → Finds P (then_some (eqb a b) k)
+finds_then P a b {k} to from = go (eqb a b) (eqb-true a b) (λ e. eq-eqb a b e)
+  where
+    go : (c : Bool) → (c ≡ true → a ≡ b) → (a ≡ b → c ≡ true) → Finds P (then_some c k)
+    go true f g = to (f refl)
+    go false f g = λ j p. absurd (false≢true (g (from j p)))
 
 -- k trees of at most d levels stand from record i up to record e
 pub record Row (rs ns : List ℕ) (d i k e : ℕ) : Type 0 where
@@ -85,16 +99,19 @@ flag_bit zero h = refl
 flag_bit (suc zero) h = refl
 flag_bit (suc (suc w)) h = absurd (omega arith)
 
-made : {b l w n k : ℕ} → Kinded l b w n k → (f : Field) → f.nullable ≡ eqb b 1 → (cs : Fields) → many cs ≡ k → Made f cs l w n
-made (struct' a x y z) f h cs m = record { tree = branch f struct cs; field = refl; children = refl; letter = sym a; wide = sym x; count = m ∙ z; childed = tt; limited = omega arith }
-made {n = n} (fixed' a x z) f h cs m = record { tree = branch f (fixed n) cs; field = refl; children = refl; letter = sym a; wide = sym x; count = refl; childed = m ∙ z; limited = tt }
-made {w = w} (list' a x y z) f h cs m = record { tree = branch f (list false (eqb w 1)) cs; field = refl; children = refl; letter = sym a; wide = flag_bit w x; count = sym y; childed = m ∙ z; limited = tt }
-made {w = w} (view' a x y z) f h cs m = record { tree = branch f (list true (eqb w 1)) cs; field = refl; children = refl; letter = sym a; wide = flag_bit w x; count = sym y; childed = m ∙ z; limited = tt }
-made (map' a x y z) f h cs m = record { tree = branch f Branch.map cs; field = refl; children = refl; letter = sym a; wide = sym x; count = sym y; childed = m ∙ z; limited = tt }
-made {w = w} (text' a x y z) f h cs m = record { tree = leaf f (text (eqb w 1)); field = refl; children = sym (no_fields cs (m ∙ z)); letter = sym a; wide = flag_bit w x; count = sym y; childed = tt; limited = tt }
-made (boolean' a x y z) f h cs m = record { tree = leaf f boolean; field = refl; children = sym (no_fields cs (m ∙ z)); letter = sym a; wide = sym x; count = sym y; childed = tt; limited = tt }
-made (null' a e x y z) f h cs m = record { tree = leaf f LeafKind.null; field = refl; children = sym (no_fields cs (m ∙ z)); letter = sym a; wide = sym x; count = sym y; childed = tt; limited = h ∙ rw e refl }
-made (custom' a x y z) f h cs m = record { tree = leaf f custom; field = refl; children = sym (no_fields cs (m ∙ z)); letter = sym a; wide = sym x; count = sym y; childed = tt; limited = tt }
+at : {j k : Kind} (n : ℕ) → j ≡ k → many_for j n ≡ many_for k n
+at n e = ap (λ k. many_for k n) e
+
+made : {b l w n : ℕ} {k : Kind} → Kinded l b w n k → (f : Field) → f.nullable ≡ eqb b 1 → (cs : Fields) → many cs ≡ many_for k n → Made f cs l w n
+made {n = n} (struct' a x y z) f h cs m = record { tree = branch f struct cs; field = refl; children = refl; letter = sym a; wide = sym x; count = m ∙ at n z; childed = tt; limited = rw (m ∙ at n z) y }
+made {n = n} (fixed' a x z) f h cs m = record { tree = branch f (fixed n) cs; field = refl; children = refl; letter = sym a; wide = sym x; count = refl; childed = m ∙ at n z; limited = tt }
+made {w = w} {n = n} (list' a x y z) f h cs m = record { tree = branch f (list false (eqb w 1)) cs; field = refl; children = refl; letter = sym a; wide = flag_bit w x; count = sym y; childed = m ∙ at n z; limited = tt }
+made {w = w} {n = n} (view' a x y z) f h cs m = record { tree = branch f (list true (eqb w 1)) cs; field = refl; children = refl; letter = sym a; wide = flag_bit w x; count = sym y; childed = m ∙ at n z; limited = tt }
+made {n = n} (map' a x y z) f h cs m = record { tree = branch f Branch.Map cs; field = refl; children = refl; letter = sym a; wide = sym x; count = sym y; childed = m ∙ at n z; limited = tt }
+made {w = w} {n = n} (text' a x y z) f h cs m = record { tree = leaf f (text (eqb w 1)); field = refl; children = sym (no_fields cs (m ∙ at n z)); letter = sym a; wide = flag_bit w x; count = sym y; childed = tt; limited = tt }
+made {n = n} (boolean' a x y z) f h cs m = record { tree = leaf f boolean; field = refl; children = sym (no_fields cs (m ∙ at n z)); letter = sym a; wide = sym x; count = sym y; childed = tt; limited = tt }
+made {n = n} (null' a e x y z) f h cs m = record { tree = leaf f LeafKind.Null; field = refl; children = sym (no_fields cs (m ∙ at n z)); letter = sym a; wide = sym x; count = sym y; childed = tt; limited = h ∙ rw e refl }
+made {n = n} (custom' a x y z) f h cs m = record { tree = leaf f custom; field = refl; children = sym (no_fields cs (m ∙ at n z)); letter = sym a; wide = sym x; count = sym y; childed = tt; limited = tt }
 
 pub nodes_size : (t : Node) → length (nodes t) ≡ 1 + length (nodes_in (children_of t))
 nodes_size (branch f b cs) = omega arith
@@ -107,7 +124,7 @@ levels_size (leaf f k) = refl
 pub tree_made : {rs ns : List ℕ} {d i k e : ℕ} → 0 < d → Fit rs ns i k → Row rs ns (d - 1) (i + 1) k e → end_at rs i ≡ e → TreeTo rs ns d i e
 tree_made {rs} {ns} {d} {i} {k} {e} deep x r h =
     let f : Field = record { number = i; name = name_at rs ns i; nullable = eqb (flag_at rs i) 1 } in
-    let m = made x.kinded f refl r.fields r.counted in
+    let m = made x.kinded f refl r.fields (r.counted ∙ x.children) in
     let size : e ≡ i + length (nodes m.tree) = omega (arith, r.ends, nodes_size m.tree, ap (λ z. length (nodes_in z)) m.children) in
     record {
       tree = m.tree;
@@ -150,7 +167,7 @@ tree_apart {rs} {ns} {d} {i} {e} r = go r.held r.ends r.shallow
     }
 
 pub fit_one : {rs ns : List ℕ} {i j k : ℕ} → Fit rs ns i j → Fit rs ns i k → j ≡ k
-fit_one a b = kinded_many a.kinded ∙ sym (kinded_many b.kinded)
+fit_one {rs} {i = i} a b = a.children ∙ ap (λ k. many_for k (count_at rs i)) (kinded_one a.kinded b.kinded) ∙ sym b.children
 
 pub row-counted : {rs ns : List ℕ} {d i j k e : ℕ} → j ≡ k → Row rs ns d i j e → Row rs ns d i k e
 row-counted h r = record { fields = r.fields; held = r.held; counted = r.counted ∙ h; ends = r.ends; shallow = r.shallow }

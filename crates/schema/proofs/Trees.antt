@@ -1,30 +1,30 @@
--- Records hold at most one tree.
-use Rattle.std.proofs.Common.{◌≡◌, ℕ, ◌+◌, ◌≤◌, Bool, true, false, cond, eqb, List, length, sym, refl, ap, ◌∙◌, subst, arith}
-use Rattle.schema.specs.Tree.{Field, LeafKind, text, boolean, custom, Branch, struct, list, fixed, Node, branch, leaf, Fields, ◌⊕◌, field_of, children_of, many, nodes, Childed}
-use Rattle.schema.specs.Layout.{the, letter_at, flag_at, wide_at, count_at}
-use Rattle.schema.specs.Held.{letter_of, wide_of, count_of, Limited, bit, Written, Held, HeldIn}
-use Rattle.schema.specs.Held.Held.{node}
-use Rattle.schema.specs.Held.HeldIn.{nothing, more}
-use Rattle.schema.specs.Checks.{Kinded, Fit}
-use Rattle.schema.proofs.Letters.{node_of, again}
+-- What a record says that is of the right kind.
+use Rattle.std.proofs.Common.{◌≡◌, ℕ, ◌≤◌, Bool, true, false, eqb, List, sym, refl, ap, ◌∙◌, arith}
+use Rattle.schema.specs.declared.kind.Kind.{Kind}
+use Rattle.schema.specs.Tree.{LeafKind, text, boolean, custom, Branch, struct, list, fixed, a_branch, a_leaf, Node, branch, leaf, field_of, kind_of, children_of, many, Childed}
+use Rattle.schema.specs.Held.{letter_of, wide_of, count_of, Limited, bit, Written}
+use Rattle.schema.specs.Checks.{Kinded, KindAt, Fit}
+use Rattle.schema.specs.OneTree.{kind_for, childed_many}
 use Rattle.schema.specs.Checks.Kinded.{struct', fixed', list', view', map', text', boolean', null', custom'}
 
--- how many children it has
-abbrev many_for : ℕ → ℕ → ℕ
-many_for l n =
-    cond (eqb l (the "S")) n
-    (cond (eqb l (the "L")) 1 (cond (eqb l (the "V")) 1 (cond (eqb l (the "F")) 1 (cond (eqb l (the "M")) 2 0))))
+-- the record says the kind
+pub kinded_for : {l f w n : ℕ} {k : Kind} → Kinded l f w n k → k ≡ kind_for l (eqb w 1) n
+kinded_for (struct' a b c d) = rw (a, d) refl
+kinded_for (fixed' a b d) = rw (a, d) refl
+kinded_for (list' a b c d) = rw (a, d) refl
+kinded_for (view' a b c d) = rw (a, d) refl
+kinded_for (map' a b c d) = rw (a, d) refl
+kinded_for (text' a b c d) = rw (a, d) refl
+kinded_for (boolean' a b c d) = rw (a, d) refl
+kinded_for (null' a e b c d) = rw (a, d) refl
+kinded_for (custom' a b c d) = rw (a, d) refl
 
-pub kinded_many : {l f w n k : ℕ} → Kinded l f w n k → k ≡ many_for l n
-kinded_many (struct' a b c d) = rw (a, d) refl
-kinded_many (fixed' a b d) = rw (a, d) refl
-kinded_many (list' a b c d) = rw (a, d) refl
-kinded_many (view' a b c d) = rw (a, d) refl
-kinded_many (map' a b c d) = rw (a, d) refl
-kinded_many (text' a b c d) = rw (a, d) refl
-kinded_many (boolean' a b c d) = rw (a, d) refl
-kinded_many (null' a e b c d) = rw (a, d) refl
-kinded_many (custom' a b c d) = rw (a, d) refl
+pub kinded_one : {l f w n : ℕ} {j k : Kind} → Kinded l f w n j → Kinded l f w n k → j ≡ k
+kinded_one a b = kinded_for a ∙ sym (kinded_for b)
+
+bit_read : (b : Bool) → b ≡ eqb (bit b) 1
+bit_read true = refl
+bit_read false = refl
 
 bit_small : (b : Bool) → bit b ≤ 1
 bit_small true = omega arith
@@ -33,47 +33,20 @@ bit_small false = omega arith
 bit_of_lem : (b : Bool) → b ≡ true → bit b ≡ 1
 bit_of_lem b e = rw e refl
 
-pub bit-same : (a b : Bool) → bit a ≡ bit b → a ≡ b
-bit-same true true e = refl
-bit-same true false e = absurd (omega arith)
-bit-same false true e = absurd (omega arith)
-bit-same false false e = refl
-
 -- what a node's record says
-kinded_of : (t : Node) → Childed t → Limited t → Kinded (letter_of t) (bit (field_of t).nullable) (bit (wide_of t)) (count_of t) (many (children_of t))
-kinded_of (branch f struct cs) a l = struct' refl refl l refl
-kinded_of (branch f (list false w) cs) a l = list' refl (bit_small w) refl a
-kinded_of (branch f (list true w) cs) a l = view' refl (bit_small w) refl a
-kinded_of (branch f (fixed n) cs) a l = fixed' refl refl a
-kinded_of (branch f Branch.map cs) a l = map' refl refl refl a
-kinded_of (leaf f (text w)) a l = text' refl (bit_small w) refl refl
-kinded_of (leaf f boolean) a l = boolean' refl refl refl refl
-kinded_of (leaf f LeafKind.null) a l = null' refl (bit_of_lem f.nullable l) refl refl refl
-kinded_of (leaf f custom) a l = custom' refl refl refl refl
+kinded_of : (t : Node) → Limited t → Kinded (letter_of t) (bit (field_of t).nullable) (bit (wide_of t)) (count_of t) (kind_of t)
+kinded_of (branch f struct cs) l = struct' refl refl l refl
+kinded_of (branch f (list false w) cs) l = list' refl (bit_small w) refl (ap (λ x. a_branch (list false x)) (bit_read w))
+kinded_of (branch f (list true w) cs) l = view' refl (bit_small w) refl (ap (λ x. a_branch (list true x)) (bit_read w))
+kinded_of (branch f (fixed n) cs) l = fixed' refl refl refl
+kinded_of (branch f Branch.Map cs) l = map' refl refl refl refl
+kinded_of (leaf f (text w)) l = text' refl (bit_small w) refl (ap (λ x. a_leaf (text x)) (bit_read w))
+kinded_of (leaf f boolean) l = boolean' refl refl refl refl
+kinded_of (leaf f LeafKind.Null) l = null' refl (bit_of_lem f.nullable l) refl refl refl
+kinded_of (leaf f custom) l = custom' refl refl refl refl
 
-written_kinded : {rs ns : List ℕ} {i : ℕ} {t : Node} → Written rs ns i t → Childed t → Limited t → Kinded (letter_at rs i) (flag_at rs i) (wide_at rs i) (count_at rs i) (many (children_of t))
-written_kinded {t = t} w a l = rw (w.letter, w.flag, w.wide, w.count) (kinded_of t a l)
+pub written_kinded : {rs ns : List ℕ} {i : ℕ} {t : Node} → Written rs ns i t → Limited t → KindAt rs i (kind_of t)
+written_kinded {t = t} w l = rw (w.letter, w.flag, w.wide, w.count) (kinded_of t l)
 
 pub written_fit : {rs ns : List ℕ} {i : ℕ} {t : Node} → Written rs ns i t → Childed t → Limited t → Fit rs ns i (many (children_of t))
-written_fit {rs} {i = i} {t = t} w a l = record { within = w.within; flag = rw w.flag (bit_small (field_of t).nullable); spare = w.spare; named = w.named; kinded = written_kinded w a l }
-
-same_field : (a b : Field) → a.number ≡ b.number → a.name ≡ b.name → a.nullable ≡ b.nullable → a ≡ b
-same_field a b p q r = λ i. record { number = p i; name = q i; nullable = r i }
-
-same_node : (t u : Node) → letter_of t ≡ letter_of u → wide_of t ≡ wide_of u → count_of t ≡ count_of u → field_of t ≡ field_of u → children_of t ≡ children_of u → t ≡ u
-same_node t u a b c d e = again t ∙ (λ i. node_of (a i) (b i) (c i) (d i) (e i)) ∙ sym (again u)
-
-mutual
-  pub same_tree : {rs ns : List ℕ} {i : ℕ} {t u : Node} → Held rs ns i t → Held rs ns i u → t ≡ u
-  same_tree (node {t = t} w a l cs) (node {t = u} v b m ds) =
-      same_node t u (sym w.letter ∙ v.letter) (bit-same (wide_of t) (wide_of u) (sym w.wide ∙ v.wide)) (sym w.count ∙ v.count)
-      (same_field (field_of t) (field_of u) (w.number ∙ sym v.number) (w.name ∙ sym v.name) (bit-same (field_of t).nullable (field_of u).nullable (sym w.flag ∙ v.flag)))
-      (same_fields cs ds (kinded_many (written_kinded w a l) ∙ sym (kinded_many (written_kinded v b m))))
-
-  pub same_fields : {rs ns : List ℕ} {i : ℕ} {cs ds : Fields} → HeldIn rs ns i cs → HeldIn rs ns i ds → many cs ≡ many ds → cs ≡ ds
-  same_fields nothing nothing e = refl
-  same_fields nothing (more h k) e = absurd (omega arith)
-  same_fields (more h k) nothing e = absurd (omega arith)
-  same_fields {rs} {ns} {i = i} (more {c = c} {cs = cs} h k) (more {c = c'} {cs = ds} h' k') n =
-      let s = same_tree h h' in
-      ap (λ x. c ⊕ x) (same_fields k (subst (λ x. HeldIn rs ns (i + length (nodes x)) ds) (sym s) k') (omega arith)) ∙ ap (λ x. x ⊕ ds) s
+written_fit {rs} {i = i} {t = t} w a l = record { within = w.within; flag = rw w.flag (bit_small (field_of t).nullable); spare = w.spare; named = w.named; kind = kind_of t; kinded = written_kinded w l; children = rw w.count (childed_many t a) }

@@ -1,6 +1,7 @@
 -- When records hold a tree.
 use Rattle.std.specs.Prelude.{◌≡◌, ℕ, ◌+◌, ◌<◌, ◌≤◌, Bool, true, false, cond, List, length, IsUtf8}
-use Rattle.schema.specs.Tree.{LeafKind, text, boolean, custom, Branch, struct, list, fixed, Node, branch, leaf, Fields, ◌⊕◌, field_of, children_of, many, nodes, Childed}
+use Rattle.schema.specs.declared.kind.Kind.{Kind}
+use Rattle.schema.specs.Tree.{LeafKind, text, boolean, custom, Branch, struct, list, fixed, a_branch, a_leaf, Node, branch, leaf, Fields, ◌⊕◌, field_of, children_of, many, nodes, Childed}
 use Rattle.schema.specs.Layout.{the, record_count, letter_at, flag_at, wide_at, spare_at, end_at, start_at, size_at, name_at, count_at}
 
 -- the letter of a node
@@ -9,10 +10,10 @@ letter_of (branch f struct cs) = the "S"
 letter_of (branch f (list false wide) cs) = the "L"
 letter_of (branch f (list true wide) cs) = the "V"
 letter_of (branch f (fixed n) cs) = the "F"
-letter_of (branch f Branch.map cs) = the "M"
+letter_of (branch f Branch.Map cs) = the "M"
 letter_of (leaf f (text wide)) = the "T"
 letter_of (leaf f boolean) = the "B"
-letter_of (leaf f LeafKind.null) = the "N"
+letter_of (leaf f LeafKind.Null) = the "N"
 letter_of (leaf f custom) = the "X"
 
 -- whether its offsets have eight bytes, and not four: of a list, a list-view and text alone
@@ -20,10 +21,10 @@ abbrev pub wide_of : Node → Bool
 wide_of (branch f struct cs) = false
 wide_of (branch f (list view wide) cs) = wide
 wide_of (branch f (fixed n) cs) = false
-wide_of (branch f Branch.map cs) = false
+wide_of (branch f Branch.Map cs) = false
 wide_of (leaf f (text wide)) = wide
 wide_of (leaf f boolean) = false
-wide_of (leaf f LeafKind.null) = false
+wide_of (leaf f LeafKind.Null) = false
 wide_of (leaf f custom) = false
 
 -- a struct counts its fields, a fixed-size list its items in a row, and nothing else counts
@@ -31,18 +32,26 @@ abbrev pub count_of : Node → ℕ
 count_of (branch f struct cs) = many cs
 count_of (branch f (list view wide) cs) = 0
 count_of (branch f (fixed n) cs) = n
-count_of (branch f Branch.map cs) = 0
+count_of (branch f Branch.Map cs) = 0
 count_of (leaf f k) = 0
+
+-- how many children a node of this kind has, where its record counts n
+abbrev pub many_for : Kind → ℕ → ℕ
+many_for (a_branch struct) n = n
+many_for (a_branch (list view wide)) n = 1
+many_for (a_branch (fixed k)) n = 1
+many_for (a_branch Branch.Map) n = 2
+many_for (a_leaf k) n = 0
 
 -- a struct has at most 64 fields, and a null leaf is nullable
 abbrev pub Limited : Node → Type 0
 Limited (branch f struct cs) = many cs ≤ 64
 Limited (branch f (list view wide) cs) = Unit {0}
 Limited (branch f (fixed n) cs) = Unit {0}
-Limited (branch f Branch.map cs) = Unit {0}
+Limited (branch f Branch.Map cs) = Unit {0}
 Limited (leaf f (text wide)) = Unit {0}
 Limited (leaf f boolean) = Unit {0}
-Limited (leaf f LeafKind.null) = f.nullable ≡ true
+Limited (leaf f LeafKind.Null) = f.nullable ≡ true
 Limited (leaf f custom) = Unit {0}
 
 -- a flag as a byte

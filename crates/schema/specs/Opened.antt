@@ -10,10 +10,10 @@ use Rattle.schema.specs.Opens.{Opens}
 
 -- the bytes of s, and how many records they are
 abbrev pub records_of : Schema → List ℕ
-records_of s = s.records.now
+records_of s = s.records.bytes.now
 
 abbrev pub names_of : Schema → List ℕ
-names_of s = s.names.now
+names_of s = s.records.names.now
 
 abbrev pub size_of : Schema → ℕ
 size_of s = record_count (records_of s)

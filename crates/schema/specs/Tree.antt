@@ -2,6 +2,12 @@
 use Rattle.std.specs.Prelude.{◌≡◌, ℕ, suc, ◌+◌, max, Bool, List, [], ◌∷◌, ◌++◌, map as mapped, length, slice_index_or}
 use Rattle.std.specs.List.{AllByRecursion}
 use Rattle.octets.specs.Lists.{between}
+use Rattle.schema.specs.declared.kind.Kind.{Kind}
+pub use Rattle.schema.specs.declared.kind.Kind.TheVariants.{Branch as a_branch, Leaf as a_leaf}
+pub use Rattle.schema.specs.declared.kind.Branch.{Branch}
+pub use Rattle.schema.specs.declared.kind.Branch.TheVariants.{Struct as struct, List as list, Fixed as fixed}
+pub use Rattle.schema.specs.declared.kind.LeafKind.{LeafKind}
+pub use Rattle.schema.specs.declared.kind.LeafKind.TheVariants.{Text as text, Boolean as boolean, Custom as custom}
 
 infixr 60 ◌⊕◌
 -- what every node has
@@ -9,19 +15,6 @@ pub record Field : Type 0 where
   pub number : ℕ
   pub name : List ℕ
   pub nullable : Bool
-
-pub data LeafKind : Type 0 where
-  text : (wide : Bool) → LeafKind
-  boolean : LeafKind
-  null : LeafKind
-  custom : LeafKind
-
--- what has children; a list-view is a list of its own layout
-pub data Branch : Type 0 where
-  struct : Branch
-  list : (view wide : Bool) → Branch
-  fixed : (count : ℕ) → Branch
-  map : Branch
 
 mutual
   pub data Node : Type 0 where
@@ -36,6 +29,11 @@ abbrev pub field_of : Node → Field
 field_of (branch f b cs) = f
 field_of (leaf f k) = f
 
+-- what a node is
+abbrev pub kind_of : Node → Kind
+kind_of (branch f b cs) = a_branch b
+kind_of (leaf f k) = a_leaf k
+
 -- what stands right below a node
 abbrev pub children_of : Node → Fields
 children_of (branch f b cs) = cs
@@ -49,6 +47,11 @@ many (c ⊕ cs) = suc (many cs)
 abbrev pub names : Fields → List (List ℕ)
 names Fields.none = []
 names (c ⊕ cs) = (field_of c).name ∷ names cs
+
+-- and the numbers of these fields
+abbrev pub numbers : Fields → List ℕ
+numbers Fields.none = []
+numbers (c ⊕ cs) = (field_of c).number ∷ numbers cs
 
 -- all nodes of a tree: each before those below it
 abbrev mutual
@@ -79,7 +82,7 @@ abbrev pub Childed : Node → Type 0
 Childed (branch f struct cs) = Unit {0}
 Childed (branch f (list view wide) cs) = many cs ≡ 1
 Childed (branch f (fixed n) cs) = many cs ≡ 1
-Childed (branch f Branch.map cs) = many cs ≡ 2
+Childed (branch f Branch.Map cs) = many cs ≡ 2
 Childed (leaf f k) = Unit {0}
 
 -- a schema's tree, with the nodes numbered from 0 in the order in which they stand

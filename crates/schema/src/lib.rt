@@ -2,38 +2,35 @@
 #![tactic(auto)]
 
 ghost use Rattle.std.specs.Prelude.{◌≡◌, ◌+◌, ◌^◌, ◌<◌, ◌≤◌, length, IsUtf8, ◌==◌};
+ghost use Rattle.std.specs.List.{All};
 ghost use Rattle.schema.specs.Layout.{record_count, letter_at, flag_at, wide_at, end_at, start_at, size_at, name_at, count_at};
 ghost use Rattle.schema.specs.Held.{letter_of, wide_of, count_of};
-ghost use Rattle.schema.specs.Tree.{Node, field_of, nodes};
-ghost use Rattle.schema.specs.Opens.{OneTree, AllFormed, AllHeld};
-ghost use Rattle.schema.specs.Opened.{Opened, Opening, TreeOf, NodeOf, records_of, names_of, size_of};
+ghost use Rattle.schema.specs.Tree.{Node, field_of, kind_of, children_of, nodes, numbers};
+ghost use Rattle.schema.specs.Opens.{Opens, OneTree, AllFormed, AllHeld};
+ghost use Rattle.schema.specs.Unique.{opened_prop};
 
 mod check;
+pub mod children;
+pub mod kind;
+pub mod records;
 pub mod settings;
 
-use check::holds;
-use octets::{u16_at, u32_at};
+use children::Children;
+use kind::Kind;
+use records::Records;
 use slip::Fault;
-
-// The name of record `at`.
-pub fn name_in<'a>(records: &'a [u8], names: &'a [u8], at: usize) -> &'a [u8]
-    requires within { at < record_count records.now }
-    requires inside { start_at records.now at + size_at records.now at ≤ length names.now }
-    ensures { result.now ≡ name_at records.now names.now at }
-{
-    let start = u32_at(records, 16 * at + 8) as usize;
-    let size = u16_at(records, 16 * at + 12) as usize;
-    &names[start..start + size]
-}
 
 // A schema that was found to be a tree.
 #[derive(Clone, Copy)]
 pub struct Schema<'a> {
-    records: &'a [u8],
-    names: &'a [u8],
+    records: Records<'a>,
+    pub ghost opened: { (root : Node) × Opens records.bytes.now records.names.now root } by { opened_prop records.bytes.now records.names.now },
 }
 
 impl<'a> Schema<'a> {
+    ghost use Rattle.schema.specs.Opened.{Opening, TreeOf, NodeOf, records_of, names_of, size_of};
+    ghost use Rattle.schema.specs.Children.{rest};
+
     // The schema in two slices, where its records hold a tree.
     pub fn open(records: &'a [u8], names: &'a [u8]) -> Result<Schema<'a>, Fault>
         ensures tree { Opening records.now names.now result }
@@ -41,8 +38,12 @@ impl<'a> Schema<'a> {
         ensures formed { AllFormed records.now names.now }
         ensures held { AllHeld records.now names.now }
     {
-        if holds(records, names) {
-            Ok(Schema { records, names })
+        let records = Records {
+            bytes: records,
+            names,
+        };
+        if records.is_tree() {
+            Ok(Schema { records })
         } else {
             Err(Fault::BadSchema)
         }
@@ -53,7 +54,7 @@ impl<'a> Schema<'a> {
         ensures records { result.0.now ≡ records_of self.entry }
         ensures names { result.1.now ≡ names_of self.entry }
     {
-        (self.records, self.names)
+        (self.records.bytes, self.records.names)
     }
 
     // How many nodes there are.
@@ -61,7 +62,7 @@ impl<'a> Schema<'a> {
         ensures said { result ≡ size_of self.entry }
         ensures tree { (root : Node) → TreeOf self.entry root → result ≡ length (nodes root) }
     {
-        self.records.len() / 16
+        self.records.len()
     }
 
     // The letter of node `i`.
@@ -70,7 +71,15 @@ impl<'a> Schema<'a> {
         ensures said { result ≡ letter_at (records_of self.entry) i }
         ensures node { (t : Node) → NodeOf self.entry i t → result ≡ letter_of t }
     {
-        self.records[16 * i] as char
+        self.records.letter(i)
+    }
+
+    // What node `i` is.
+    pub fn kind(self, i: usize) -> Kind
+        requires { i < size_of self }
+        ensures { (t : Node) → NodeOf self.entry i t → result ≡ kind_of t }
+    {
+        self.records.kind(i).unwrap()
     }
 
     // Whether node `i` has the nullable flag.
@@ -79,7 +88,7 @@ impl<'a> Schema<'a> {
         ensures said { result ≡ (flag_at (records_of self.entry) i == 1) }
         ensures node { (t : Node) → NodeOf self.entry i t → result ≡ (field_of t).nullable }
     {
-        self.records[16 * i + 1] == 1
+        self.records.flag(i) == 1
     }
 
     // Whether the offsets of node `i` have eight bytes, and not four.
@@ -88,7 +97,7 @@ impl<'a> Schema<'a> {
         ensures said { result ≡ (wide_at (records_of self.entry) i == 1) }
         ensures node { (t : Node) → NodeOf self.entry i t → result ≡ wide_of t }
     {
-        self.records[16 * i + 2] == 1
+        self.records.wide(i) == 1
     }
 
     // The number after the last node below node `i`.
@@ -97,7 +106,7 @@ impl<'a> Schema<'a> {
         ensures said { result ≡ end_at (records_of self.entry) i }
         ensures node { (t : Node) → NodeOf self.entry i t → result ≡ i + length (nodes t) }
     {
-        u32_at(self.records, 16 * i + 4) as usize
+        self.records.end(i)
     }
 
     // The fields of a struct, or the items in a row of a fixed-size list.
@@ -107,17 +116,26 @@ impl<'a> Schema<'a> {
         ensures said { result ≡ count_at (records_of self.entry) i }
         ensures node { (t : Node) → NodeOf self.entry i t → result ≡ count_of t }
     {
-        u16_at(self.records, 16 * i + 14) as usize
+        self.records.count(i)
+    }
+
+    // The numbers of the nodes right below node `i`, in order.
+    pub fn children(self, i: usize) -> Children<'a>
+        requires { i < size_of self }
+        ensures node { (t : Node) → NodeOf self.entry i t → rest result ≡ numbers (children_of t) }
+        ensures within { All (λ c. c < size_of self.entry) (rest result) }
+        ensures few { length (rest result) < size_of self.entry }
+    {
+        Children::over(self, i + 1, self.kind(i).children(self.count(i)))
     }
 
     // The name of node `i`.
     pub fn name(self, i: usize) -> &'a [u8]
-        requires opened { Opened self }
-        requires within { i < size_of self }
+        requires { i < size_of self }
         ensures said { result.now ≡ name_at (records_of self.entry) (names_of self.entry) i }
         ensures node { (t : Node) → NodeOf self.entry i t → result.now ≡ (field_of t).name }
         ensures utf8 { IsUtf8 result.now }
     {
-        name_in(self.records, self.names, i)
+        self.records.name(i)
     }
 }

@@ -1,7 +1,7 @@
 // How rows are read.
 
 // The four yes-or-no settings of a shelf.
-#[derive(Clone, Copy, PartialEq, Eq, Debug)]
+#[derive(Clone, Copy, Default, PartialEq, Eq, Debug)]
 pub struct Settings {
     // Booleans and numbers are taken as text where text is wanted.
     pub coerce: bool,

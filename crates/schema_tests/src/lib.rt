@@ -2,12 +2,13 @@
 #![tactic(auto)]
 
 ghost use Rattle.std.specs.Prelude.{◌<◌, ◌≤◌};
-ghost use Rattle.schema.specs.Opened.{Opened};
+ghost use Rattle.schema.specs.Opened.{size_of};
 
 #[cfg(test)]
 mod tests {
     use names::{Index, NameIndex, Scan, Table};
     use schema::Schema;
+    use schema::kind::{Branch, Kind, LeafKind};
     use std::test::Fail;
 
     // One name of one byte for each field; places 0, 14, 15 and 63 are twins.
@@ -27,6 +28,28 @@ mod tests {
         (b'N', 1, 0, 10, 0),
         (b'T', 0, 1, 11, 0),
         (b'S', 1, 0, 12, 0),
+    ];
+
+    // What each node is.
+    const KINDS: [Kind; 12] = [
+        Kind::Branch(Branch::Struct),
+        Kind::Branch(Branch::Fixed { count: 3 }),
+        Kind::Leaf(LeafKind::Boolean),
+        Kind::Branch(Branch::List {
+            view: false,
+            wide: false,
+        }),
+        Kind::Leaf(LeafKind::Text { wide: false }),
+        Kind::Branch(Branch::List {
+            view: true,
+            wide: true,
+        }),
+        Kind::Leaf(LeafKind::Custom),
+        Kind::Branch(Branch::Map),
+        Kind::Leaf(LeafKind::Text { wide: false }),
+        Kind::Leaf(LeafKind::Null),
+        Kind::Leaf(LeafKind::Text { wide: true }),
+        Kind::Branch(Branch::Struct),
     ];
 
     // A byte of those records, and a value that makes them no schema.
@@ -131,8 +154,7 @@ mod tests {
 
     // Whether node `k` reads as it was written.
     fn reads(schema: Schema<'_>, k: usize) -> bool
-        requires opened { Opened schema }
-        requires within { k < 12 }
+        requires { k < 12 }
     {
         let (letter, flag, wide, end, count) = NODES[k];
         k < schema.len()
@@ -152,12 +174,21 @@ mod tests {
                     return false;
                 }
                 let scan = Scan::of(schema, 0);
-                let table = Table::of(scan);
+                let table = Table::from(Scan::of(schema, 0));
                 let index = Index::of(schema, 0);
                 scan.find(name) == place && table.find(name) == place && index.find(name) == place
             }
             Err(_) => false,
         }
+    }
+
+    // The child of `node` that is node `below` or stands above it.
+    fn over(schema: Schema<'_>, node: usize, below: usize) -> Option<usize>
+        requires { node < size_of schema }
+    {
+        schema
+            .children(node)
+            .find(|&child| schema.end(child) > below)
     }
 
     #[test]
@@ -261,5 +292,35 @@ mod tests {
         records[28] = 2;
         assert!(rt; opens(head(&records, 32), b"\xc3\xa9"));
         assert!(rt; !opens(head(&records, 32), b"\xa9\xc3"));
+    }
+
+    #[test]
+    fn kinds(rt: HostRuntime) {
+        let records = every();
+        if let Ok(schema) = Schema::open(&records, &NAMES) {
+            for k in 0..12 {
+                assert!(rt; k < schema.len());
+                assert!(rt; schema.kind(k) == KINDS[k]);
+            }
+        }
+    }
+
+    #[test]
+    fn children(rt: HostRuntime) {
+        let records = every();
+        if let Ok(schema) = Schema::open(&records, &NAMES) {
+            assert!(rt; schema.len() == 12);
+            let below = [1, 3, 5, 7, 10, 11];
+            for (place, child) in schema.children(0).enumerate() {
+                assert!(rt; place < 6);
+                assert!(rt; child == below[place]);
+            }
+            assert!(rt; schema.children(0).count() == 6);
+            assert!(rt; schema.children(1).count() == 1);
+            assert!(rt; schema.children(2).count() == 0);
+            assert!(rt; schema.children(7).count() == 2);
+            assert!(rt; schema.children(11).count() == 0);
+            assert!(rt; over(schema, 0, 8) == Some(7));
+        }
     }
 }

@@ -21,7 +21,7 @@ use Rattle.laws.specs.Shelf.{walk}
 use Rattle.laws.proofs.Told.{Told, told_got}
 use Rattle.laws.proofs.Fits.{walk-told}
 use Rattle.nodes.specs.Nodes.{cols}
-use Rattle.nodes.specs.Contract.{setup_of, Walked}
+use Rattle.nodes.specs.Contract.{Seen, setup_of, Walked}
 use Rattle.nodes.proofs.Cols.{length-cols, walk_end}
 use Rattle.nodes.proofs.Worths.{cols_are}
 use Rattle.shelf.specs.Standing.{Writes}
@@ -46,23 +46,27 @@ zeros_blank area top e = ap (drop top) e ∙ drop-replicate {X = ℕ} top (lengt
 pub wiped : (from to : List ℕ) (end : ℕ) → from ≡ replicate (length from) 0 → length to ≡ length from → end ≤ length to → Blank to end → splice to 0 (replicate (end - 0) 0) ≡ from
 wiped from to end e l h blank = zeroed to 0 end (length to) (omega arith) h blank ∙ ap (λ n. replicate {A = ℕ} n 0) (omega (arith, l)) ∙ sym e
 
+-- what a visit of the root sees
+abbrev at_root : Settings → Meaning → TapeView → (rs ns ps : List ℕ) → Seen
+at_root s m t rs ns ps = record { settings = s; custom = m; tape = t; records = rs; names = ns; node = 0; in_force = false; positions = ps }
+
 module _ (s : Settings) (m : Meaning) (t : TapeView) (rs ns ps : List ℕ) (left : ℕ) (from to : List ℕ) (top end : ℕ) (root : Node) (size : ℕ) (o : Opens rs ns root) (top-is : top ≡ 32 * record_count rs) where
   top-all : top ≡ 32 * length (nodes root)
   top-all = omega (arith, o.all)
 
-  pub walked_ok : (x : Unit {0}) → Walked s m t rs ns 0 false ps left from to top end (Ok x)
+  pub walked_ok : (x : Unit {0}) → Walked (at_root s m t rs ns ps) left from to top end (Ok x)
       → got end ≡ walk (setup_of s m root size) t (length from) left root (field_of root).nullable ps (32 * length (nodes root)) 0
   walked_ok x w =
       w.outcome root size root o.held 0 ∙ ap (λ l. walk (setup_of s m root size) t (length from) l root false ps top 0) (zero-add left)
       ∙ ap₂ (λ b n. walk (setup_of s m root size) t (length from) left root b ps n 0) (sym o.present) top-all
 
-  pub walked_err : (f : Fault) → Walked s m t rs ns 0 false ps left from to top end (Err f)
+  pub walked_err : (f : Fault) → Walked (at_root s m t rs ns ps) left from to top end (Err f)
       → answer_of {A = ℕ} (Err f) ≡ walk (setup_of s m root size) t (length from) left root (field_of root).nullable ps (32 * length (nodes root)) 0
   walked_err f w =
       w.outcome root size root o.held 0 ∙ ap (λ l. walk (setup_of s m root size) t (length from) l root false ps top 0) (zero-add left)
       ∙ ap₂ (λ b n. walk (setup_of s m root size) t (length from) left root b ps n 0) (sym o.present) top-all
 
-  pub writes_ok : NullFirst t → (x : Unit {0}) → Walked s m t rs ns 0 false ps left from to top end (Ok x) → Writes (setup_of s m root size) t ps left from to (Ok end)
+  pub writes_ok : NullFirst t → (x : Unit {0}) → Walked (at_root s m t rs ns ps) left from to top end (Ok x) → Writes (setup_of s m root size) t ps left from to (Ok end)
   writes_ok null x w =
       let st = setup_of s m root size in
       let force = (field_of root).nullable in

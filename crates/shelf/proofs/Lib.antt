@@ -3,4 +3,5 @@ pub mod Shapes
 pub mod Batches
 pub mod Positions
 pub mod Adding
+pub mod Shelving
 pub mod Cells

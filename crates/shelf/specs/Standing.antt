@@ -1,9 +1,12 @@
--- What a shelf holds, by its fields, and what its calls promise.
-use Rattle.std.specs.Prelude.{◌≡◌, ℕ, ◌+◌, ◌-◌, ◌*◌, ◌%◌, ◌^◌, ◌<◌, ◌≤◌, false, cond, List, length, take, replicate, IfOk, IfErr, Ok, Err, Result, ◌==◌, ◌≢◌, slice_index}
+-- What a page holds, and what the calls on it promise.
+use Rattle.std.specs.Prelude.{◌≡◌, ℕ, ◌+◌, ◌-◌, ◌*◌, ◌%◌, ◌^◌, ◌<◌, ◌≤◌, false, cond, ◌⊎◌, List, [], length, take, replicate, IfOk, IfErr, Ok, Err, Result, ◌==◌, ◌≢◌, slice_index}
 use Rattle.slip.specs.declared.Fault.{Fault}
 use Rattle.slip.specs.Slips.{Got, got, answer_of, slip, slip_of}
 use Rattle.octets.specs.Lists.{splice}
-use Rattle.schema.specs.Tree.{Node, LeafKind, branch, leaf, field_of, nodes}
+use Rattle.schema.specs.Tree.{Node, field_of, nodes}
+use Rattle.schema.specs.declared.kind.Kind.{Kind}
+use Rattle.schema.specs.declared.kind.LeafKind.{LeafKind}
+use Rattle.schema.specs.declared.settings.Settings.{Settings}
 use Rattle.schema.specs.Opened.{TreeOf}
 use Rattle.schema.specs.declared.Schema.{Schema}
 use Rattle.tape.specs.View.{TapeView}
@@ -18,41 +21,33 @@ use Rattle.batch.specs.declared.cell.Shape.TheVariants.{Leaf}
 use Rattle.laws.specs.Shelf.{Held, walk, page, used, rows_of}
 use Rattle.laws.specs.Calls.{Call, after}
 use Rattle.nodes.specs.Contract.{setup_of}
-use Rattle.shelf.specs.declared.Shelf.{Shelf}
 
 -- where batch i begins, by the ends of those before it
 abbrev pub start_in : (ends : List ℕ) → ℕ → ℕ
 start_in ends i = cond (i == 0) 0 (slice_index ends (i - 1))
 
--- a shelf with this schema, page, ends and count of batches holds these
-pub record Holds (st : Setup) (schema : Schema) (bytes ends : List ℕ) (count : ℕ) (held : Held st) : Type 0 where
+-- a page under this schema, on which batches have these ends, holds these
+pub record Holds (st : Setup) (schema : Schema) (bytes ends : List ℕ) (held : Held st) : Type 0 where
   pub tree : TreeOf schema st.root
   pub lies : bytes ≡ page st held
   pub inside : used st held ≤ st.size
   pub small : st.size ≤ 2 ^ 24
   pub whole : st.size % 8 ≡ 0
-  pub many : count ≡ length held
+  pub many : length ends ≡ length held
   pub few : length held ≤ 64
-  pub slots : length ends ≡ 64
   pub ended : (i : ℕ) → i < length held → slice_index ends i ≡ used st (take (i + 1) held)
 
--- the same of a shelf of the code
-abbrev pub HoldsIn : {X : Type 0} (st : Setup) → Shelf X → Held st → Type 0
-HoldsIn st shelf held = Holds st shelf.schema shelf.page.now shelf.ends shelf.count held
+-- there is something that it holds, be it nothing
+abbrev pub Standing : Settings → Meaning → Schema → (bytes ends : List ℕ) → Type 0
+Standing s m schema bytes ends = (root : Node) × (size : ℕ) × (held : Held (setup_of s m root size)) × Holds (setup_of s m root size) schema bytes ends held
 
--- a shelf of the code, with the meaning of its custom leaf
-module _ {X : Type 0} (m : X → Meaning) (shelf : Shelf X) where
-  -- its setup, by the tree of its schema and the bytes of its page
-  abbrev pub setup_in : (root : Node) → (size : ℕ) → Setup
-  setup_in root size = setup_of shelf.settings (m shelf.custom.now) root size
+-- the length of a page that a shelf writes: at most 2^24 bytes, a multiple of 8
+abbrev pub Fits : (size : ℕ) → Type 0
+Fits size = (size ≤ 2 ^ 24) × (size % 8 ≡ 0)
 
-  -- there is something that it holds, be it nothing
-  abbrev pub Standing : Type 0
-  Standing = (root : Node) × (size : ℕ) × (held : Held (setup_in root size)) × HoldsIn (setup_in root size) shelf held
-
-  -- what is said of whatever it holds
-  abbrev pub OfHeld : ((st : Setup) → Held st → Type 0) → Type 0
-  OfHeld P = (root : Node) (size : ℕ) (held : Held (setup_in root size)) → HoldsIn (setup_in root size) shelf held → P (setup_in root size) held
+-- there is something that a page holds, be it nothing; or the page does not fit, and no batch lies on it
+abbrev pub Stands : Settings → Meaning → Schema → (bytes ends : List ℕ) → Type 0
+Stands s m schema bytes ends = Standing s m schema bytes ends ⊎ ((Fits (length bytes) → ⊥) × (ends ≡ []))
 
 -- a page on which a shelf can begin: at most 2^24 bytes, a multiple of 8, all zeros
 pub record Fresh (bytes : List ℕ) : Type 0 where
@@ -71,18 +66,15 @@ pub record Writes (st : Setup) (t : TapeView) (ps : List ℕ) (lent : ℕ) (from
   pub content : IfOk r (λ end. (rows : List (Value st.root)) × (rows_of st t ps ≡ got rows) × (end ≡ length (bytes_of st rows)) × (to ≡ splice from 0 (bytes_of st rows)))
   pub unwritten : IfErr r (λ _. to ≡ from)
 
--- the shape of a node, by the layout of the custom leaf
-abbrev pub shape_by : Layout → Node → Shape
-shape_by custom (branch f b cs) = branch_shape b
-shape_by custom (leaf f (LeafKind.text wide)) = Leaf Text wide
-shape_by custom (leaf f LeafKind.boolean) = Leaf Bit false
-shape_by custom (leaf f LeafKind.null) = Leaf None false
-shape_by custom (leaf f LeafKind.custom) = Leaf custom false
+-- the shape of a node of some kind, by the layout of the custom leaf
+abbrev pub shape_by : Layout → Kind → Shape
+shape_by custom (Kind.Branch b) = branch_shape b
+shape_by custom (Kind.Leaf (LeafKind.Text wide)) = Leaf Text wide
+shape_by custom (Kind.Leaf LeafKind.Boolean) = Leaf Bit false
+shape_by custom (Kind.Leaf LeafKind.Null) = Leaf None false
+shape_by custom (Kind.Leaf LeafKind.Custom) = Leaf custom false
 
 -- the answer to a call that may change what is held, and what is held after
-pub record Does (st : Setup) (held : Held st) (schema : Schema) (bytes ends : List ℕ) (count : ℕ) (call : Call) (answer is : Got ℕ) : Type 0 where
+pub record Does (st : Setup) (held : Held st) (schema : Schema) (bytes ends : List ℕ) (call : Call) (answer is : Got ℕ) : Type 0 where
   pub answered : is ≡ answer
-  pub holds : Holds st schema bytes ends count (after st held call)
-
-abbrev pub DoesIn : {X : Type 0} (st : Setup) (held : Held st) → Shelf X → Call → (answer is : Got ℕ) → Type 0
-DoesIn st held shelf call answer is = Does st held shelf.schema shelf.page.now shelf.ends shelf.count call answer is
+  pub holds : Holds st schema bytes ends (after st held call)

@@ -1,8 +1,9 @@
 // Why a call is refused: one fault for each of the twelve refusals.
 #![tactic(auto)]
 
-ghost use Rattle.std.specs.Prelude.{◌≡◌};
+ghost use Rattle.std.specs.Prelude.{◌≡◌, Some};
 ghost use Rattle.slip.specs.Slips.{slip_of};
+ghost use Rattle.slip.specs.Words.{word_of, text_of};
 
 use std::fmt;
 
@@ -89,7 +90,9 @@ impl Fault {
     }
 
     // The refusal's word.
-    pub fn word(self) -> &'static str {
+    pub fn word(self) -> &'static str
+        ensures { result.now ≡ word_of self }
+    {
         match self {
             Fault::TornTape => "torn tape",
             Fault::BadSchema => "bad schema",
@@ -108,6 +111,8 @@ impl Fault {
 }
 
 impl fmt::Display for Fault {
+    ghost output = { λ fault. Some (text_of fault) };
+
     fn fmt<W: fmt::Write>(&self, f: &mut fmt::Formatter<W>) -> fmt::Result {
         let number = self.number();
         let word = self.word();
@@ -116,3 +121,5 @@ impl fmt::Display for Fault {
         write!(f, "{number} {word}: node {node}, place {place}")
     }
 }
+
+impl std::error::Error for Fault {}

@@ -1,37 +1,20 @@
 -- What a tape's letters say of its values.
-use Rattle.std.proofs.Common.{◌≡◌, ℕ, ◌+◌, ◌-◌, ◌*◌, ◌%◌, ◌<◌, ◌≤◌, false, ◌⊎◌, List, length, Some, None, Decides, Option, sym, refl, ap, ◌∙◌, subst, inl, inr, arith}
+use Rattle.std.proofs.Common.{◌≡◌, ℕ, ◌+◌, ◌-◌, ◌*◌, ◌%◌, ◌<◌, false, ◌⊎◌, List, length, Some, None, Decides, Option, sym, refl, ap, ◌∙◌, subst, inl, inr, arith}
 use native.Mathlib.Decide.{dec_lt}
 use Rattle.std.proofs.lemmas.List.{get_or_past}
 use Rattle.std.proofs.lemmas.Bool.{false≢true}
-use Rattle.tape.specs.Layout.{letter_at, number_at, next_at, element_count}
+use Rattle.tape.specs.Layout.{letter_at, number_at, element_count}
+pub use Rattle.tape.specs.Unique.{LeafFacts, leaf_facts, value_next, unique, value_forward, values_forward, pairs_forward}
 use Rattle.tape.specs.Grammar.{Text, Leaf, Partners, Value, Values, Pairs}
-use Rattle.tape.specs.Grammar.Leaf.{string, number, i32, true', false', null}
+use Rattle.tape.specs.Grammar.Leaf.{string, number, true', false', null}
 use Rattle.tape.specs.Grammar.Value.{leaf, i64, list, object}
 use Rattle.tape.specs.Grammar.Values.{none, more}
 use Rattle.tape.specs.Grammar.Pairs.{no_pair, pair}
-use Rattle.tape.specs.Answer.{Finds, Meets, ListTo, ObjectTo}
+use Rattle.tape.specs.Found.{Finds, Meets, ListTo, ObjectTo}
 
 -- a test that failed, of what does not hold
 pub never : {P : Type 0} → (P → ⊥) → Decides false P
 never n = ((λ e. absurd (false≢true e)), (λ p. absurd (n p)))
-
--- what a leaf's letter says of its number
-abbrev pub LeafFacts : List ℕ → ℕ → ℕ → Type 0
-LeafFacts es m p =
-    ((letter_at es p ≡ 115) × (number_at es p + 1 < m))
-    ⊎ ((letter_at es p ≡ 110) × (number_at es p + 1 < m))
-    ⊎ (letter_at es p ≡ 105)
-    ⊎ ((letter_at es p ≡ 116) × (number_at es p ≡ 0))
-    ⊎ ((letter_at es p ≡ 102) × (number_at es p ≡ 0))
-    ⊎ ((letter_at es p ≡ 122) × (number_at es p ≡ 0))
-
-pub leaf_facts : {es : List ℕ} {m p : ℕ} → Leaf es m p → LeafFacts es m p
-leaf_facts (string t) = inl (t.letter, t.held)
-leaf_facts (number a h) = inr (inl (a, h))
-leaf_facts (i32 a) = inr (inr (inl a))
-leaf_facts (true' a z) = inr (inr (inr (inl (a, z))))
-leaf_facts (false' a z) = inr (inr (inr (inr (inl (a, z)))))
-leaf_facts (null a z) = inr (inr (inr (inr (inr (a, z)))))
 
 -- what the first letter of a value says of the elements there
 pub value_facts : {es : List ℕ} {m d p q : ℕ} → Value es m d p q
@@ -47,39 +30,6 @@ within es p w h = elim (dec_lt p (element_count es)) [ yes l ↦ l | no n ↦ ab
 
 pub value_within : {es : List ℕ} {m d p q : ℕ} → length es % 8 ≡ 0 → Value es m d p q → p < element_count es
 value_within {es} {p = p} w v = within es p w (omega (arith, value_facts v))
-
-leaf_next : {es : List ℕ} {m p : ℕ} → Leaf es m p → p + 1 ≡ next_at es p
-leaf_next (string t) = rw t.letter refl
-leaf_next (number a h) = rw a refl
-leaf_next (i32 a) = rw a refl
-leaf_next (true' a z) = rw a refl
-leaf_next (false' a z) = rw a refl
-leaf_next (null a z) = rw a refl
-
--- a value ends where its first element says
-pub value_next : {es : List ℕ} {m d p q : ℕ} → Value es m d p q → q ≡ next_at es p
-value_next (leaf l) = leaf_next l
-value_next (i64 a b) = rw a refl
-value_next (list h vs x) = rw (x.opens, x.to) refl
-value_next (object h ps x) = rw (x.opens, x.to) refl
-
-pub unique : {es : List ℕ} {m d p k q : ℕ} → Value es m d p k → Value es m d p q → k ≡ q
-unique v w = value_next v ∙ sym (value_next w)
-
-mutual
-  pub value_forward : {es : List ℕ} {m d p q : ℕ} → Value es m d p q → p < q
-  value_forward (leaf l) = omega arith
-  value_forward (i64 a b) = omega arith
-  value_forward (list h vs x) = omega (arith, values_forward vs)
-  value_forward (object h ps x) = omega (arith, pairs_forward ps)
-
-  pub values_forward : {es : List ℕ} {m d p q : ℕ} → Values es m d p q → p ≤ q
-  values_forward none = omega arith
-  values_forward (more v vs) = omega (arith, value_forward v, values_forward vs)
-
-  pub pairs_forward : {es : List ℕ} {m d p q : ℕ} → Pairs es m d p q → p ≤ q
-  pairs_forward no_pair = omega arith
-  pairs_forward (pair t v ps) = omega (arith, value_forward v, pairs_forward ps)
 
 -- what stands at an opening bracket
 pub record ListAt (es : List ℕ) (m d p q : ℕ) : Type 0 where

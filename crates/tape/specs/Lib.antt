@@ -2,7 +2,12 @@ pub mod Layout
 pub mod View
 pub mod Values
 pub mod Grammar
+pub mod Found
 pub mod Opens
+pub mod Halves
+pub mod Unique
+pub mod Opened
 pub mod Answer
 pub mod Elements
 pub mod Walk
+pub mod Ahead

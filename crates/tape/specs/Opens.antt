@@ -4,7 +4,6 @@ use Rattle.std.specs.Str.{IsCharBoundary}
 use Rattle.tape.specs.Layout.{the, letter_at, number_at, offset_at, element_count, offset_count}
 use Rattle.tape.specs.Grammar.{Values}
 use Rattle.tape.specs.View.{TapeView}
-use Rattle.tape.specs.declared.Tape.{Tape}
 
 -- bytes 1 to 3 of element p are zero
 abbrev pub Bare : List ℕ → ℕ → Type 0
@@ -35,14 +34,6 @@ pub record Opens (es ts os : List ℕ) : Type 0 where
   pub values : Values es (offset_count os) 64 1 (element_count es)
   pub texts : Texts ts os
 
--- what lies in a tape of the code
-abbrev pub view_of : Tape → TapeView
-view_of t = record { elements = t.elements.now; texts = t.texts.now; offsets = t.offsets.now }
-
 -- the bytes of t are a tape
 abbrev pub Untorn : TapeView → Type 0
 Untorn t = Opens t.elements t.texts t.offsets
-
--- t was made by `open`
-abbrev pub Opened : Tape → Type 0
-Opened t = Untorn (view_of t)

@@ -17,7 +17,7 @@ pub enum TapeElement {
 }
 
 // What a leaf sees of an element: its kind, with its text or whole number.
-#[derive(Clone, Copy)]
+#[derive(Clone, Copy, PartialEq, Eq, Debug)]
 pub enum Element<'a> {
     Object,
     List,

@@ -2,60 +2,71 @@
 #![tactic(auto)]
 
 ghost use Rattle.std.specs.Prelude.{◌≡◌, ◌+◌, ◌*◌, ◌^◌, ◌<◌, true, ◌||◌, length};
-ghost use Rattle.tape.specs.Answer.{OpensTo};
 ghost use Rattle.tape.specs.Elements.{tape_element_at, LetterLaw};
 ghost use Rattle.tape.specs.Layout.{the, next_at, number_at, element_count, offset_count};
-ghost use Rattle.tape.specs.Opens.{Opened, view_of};
+ghost use Rattle.tape.specs.Opens.{Opens};
 ghost use Rattle.tape.specs.Values.{elem_of};
-ghost use Rattle.tape.specs.View.{view, twos, is_at, text_at, element_at, entries, is_position};
-ghost use Rattle.tape.specs.Walk.{ListLaw, ObjectLaw, RowsLaw, NextLaw, FirstLaw, TextLaw};
+ghost use Rattle.tape.specs.View.{view, twos, is_at, text_at, words_at, element_at, entries, is_position};
+ghost use Rattle.tape.specs.Walk.{onward, ListLaw, ObjectLaw, RowsLaw, NextLaw, FirstLaw, TextLaw};
+ghost use Rattle.tape.specs.Unique.{Opens-prop};
 
-use check::{is_tape, letter, number, offset};
+use check::is_tape;
 use element::{Element, TapeElement};
+use layout::{Elements, Offsets};
 use slip::Fault;
+use walk::{Entries, Pairs};
 
 mod check;
 pub mod element;
+mod layout;
+pub mod rows;
+pub mod walk;
 
 // A view of three byte slices that follow the rules of a tape.
 #[derive(Clone, Copy)]
 pub struct Tape<'a> {
-    elements: &'a [u8],
-    texts: &'a [u8],
-    offsets: &'a [u8],
+    elements: Elements<'a>,
+    texts: &'a str,
+    offsets: Offsets<'a>,
+    pub ghost opened: { Opens elements.bytes.now texts.now offsets.bytes.now } by { Opens-prop elements.bytes.now texts.now offsets.bytes.now },
 }
 
 impl<'a> Tape<'a> {
+    ghost use Rattle.tape.specs.Ahead.{rest, pairs_rest, by_twos};
+    ghost use Rattle.tape.specs.Answer.{OpensTo};
+    ghost use Rattle.tape.specs.Opened.{view_of};
+
     // The tape in three slices, where they follow the rules.
     pub fn open(elements: &'a [u8], texts: &'a [u8], offsets: &'a [u8]) -> Result<Tape<'a>, Fault>
         ensures { OpensTo (view elements.now texts.now offsets.now) result }
     {
-        if is_tape(elements, texts, offsets) {
-            Ok(Tape {
-                elements,
-                texts,
-                offsets,
-            })
-        } else {
-            Err(Fault::TornTape)
+        let elements = Elements::new(elements).ok_or(Fault::TornTape)?;
+        let texts = std::str::from_utf8(texts).map_err(|_| Fault::TornTape)?;
+        let offsets = Offsets::new(offsets).ok_or(Fault::TornTape)?;
+        if !is_tape(elements, texts, offsets) {
+            return Err(Fault::TornTape);
         }
+        Ok(Tape {
+            elements,
+            texts,
+            offsets,
+        })
     }
 
     // How many elements there are.
     pub fn count(self) -> usize
         ensures { result ≡ element_count (view_of self.entry).elements }
     {
-        self.elements.len() / 8
+        self.elements.len()
     }
 
     // The element at `p` as it lies on the tape.
     pub fn get(self, p: u32) -> TapeElement
-        requires opened { Opened self }
         requires within { p < element_count (view_of self).elements }
         ensures { result ≡ tape_element_at (view_of self.entry) p }
     {
-        let n = number(self.elements, p as usize);
-        match letter(self.elements, p as usize) {
+        let n = self.elements.number(p as usize);
+        match self.elements.letter(p as usize) {
             '{' => TapeElement::StartObject(n),
             '}' => TapeElement::EndObject(n),
             '[' => TapeElement::StartList(n),
@@ -73,48 +84,79 @@ impl<'a> Tape<'a> {
 
     // The index after the value at `p`.
     pub fn next(self, p: u32) -> u32
-        requires opened { Opened self }
         requires within { p < element_count (view_of self).elements }
         ensures { result ≡ next_at (view_of self.entry).elements p }
     {
-        match letter(self.elements, p as usize) {
-            '[' | '{' => number(self.elements, p as usize) + 1,
+        match self.elements.letter(p as usize) {
+            '[' | '{' => self.elements.number(p as usize) + 1,
             'j' => p + 2,
             _ => p + 1,
         }
     }
 
+    // Whether the element at `p` has this letter.
+    pub fn is_at(self, p: u32, letter: char) -> bool
+        requires within { p < element_count (view_of self).elements }
+        ensures { result ≡ is_at (view_of self.entry) letter p }
+    {
+        self.elements.letter(p as usize) == letter
+    }
+
+    // The text of the string at the position `p`.
+    pub fn words(self, p: u32) -> &'a str
+        requires position { is_position (view_of self) p ≡ true }
+        requires string { is_at (view_of self) (the "s") p ≡ true }
+        ensures { result.now ≡ words_at (view_of self.entry) p }
+    {
+        self.get_string(self.elements.number(p as usize))
+    }
+
     // The text with the number `k`.
     pub fn get_string(self, k: u32) -> &'a str
-        requires opened { Opened self }
         requires within { k + 1 < offset_count (view_of self).offsets }
         ensures { result.now ≡ text_at (view_of self.entry) k }
     {
-        let from = offset(self.offsets, k as usize);
-        let to = offset(self.offsets, k as usize + 1);
-        unsafe { std::str::from_utf8_unchecked(&self.texts[from..to]) }
+        let from = self.offsets.get(k as usize);
+        let to = self.offsets.get(k as usize + 1);
+        &self.texts[from..to]
+    }
+
+    // The entries of the list or the object at the position `p`; an object's names count too.
+    pub fn entries(self, p: u32) -> Entries<'a>
+        requires position { is_position (view_of self) p ≡ true }
+        requires bracket { (is_at (view_of self) (the "{") p || is_at (view_of self) (the "[") p) ≡ true }
+        ensures { rest result ≡ entries (view_of self.entry) p }
+    {
+        Entries::new(self, p + 1, self.elements.number(p as usize))
+    }
+
+    // The names of the object at the position `p`, each with its value.
+    pub fn pairs(self, p: u32) -> Pairs<'a>
+        requires position { is_position (view_of self) p ≡ true }
+        requires object { is_at (view_of self) (the "{") p ≡ true }
+        ensures { pairs_rest result ≡ by_twos (entries (view_of self.entry) p) }
+    {
+        Pairs::new(self, p + 1, self.elements.number(p as usize))
+    }
+
+    // The rows: the values that follow element 0, in no list and no object.
+    pub fn values(self) -> Entries<'a>
+        ensures { rest result ≡ onward (view_of self.entry) 1 (element_count (view_of self.entry).elements) }
+    {
+        Entries::new(self, 1, self.count() as u32)
     }
 
     // How many entries the list or the object at the position `p` has; an object's names count too.
     pub fn entry_count(self, p: u32) -> usize
-        requires opened { Opened self }
         requires position { is_position (view_of self) p ≡ true }
         requires bracket { (is_at (view_of self) (the "{") p || is_at (view_of self) (the "[") p) ≡ true }
         ensures { result ≡ length (entries (view_of self.entry) p) }
     {
-        let end = number(self.elements, p as usize);
-        let mut at = p + 1;
-        let mut n = 0;
-        while at < end {
-            n += 1;
-            at = self.next(at);
-        }
-        n
+        self.entries(p).count()
     }
 
     // What a leaf sees of the element at `p`.
     pub fn element(self, p: u32) -> Element<'a>
-        requires opened { Opened self }
         requires within { p < element_count (view_of self).elements }
         ensures { elem_of result ≡ element_at (view_of self.entry) p }
     {
@@ -136,8 +178,8 @@ impl<'a> Tape<'a> {
         requires { p + 1 < element_count (view_of self).elements }
         ensures { result ≡ twos (2 ^ 63) (number_at (view_of self.entry).elements p * 2 ^ 32 + number_at (view_of self.entry).elements (p + 1)) }
     {
-        let high = u64::from(number(self.elements, p as usize));
-        let low = u64::from(number(self.elements, p as usize + 1));
+        let high = u64::from(self.elements.number(p as usize));
+        let low = u64::from(self.elements.number(p as usize + 1));
         ((high << 32) + low).cast_signed()
     }
 
@@ -149,15 +191,15 @@ impl<'a> Tape<'a> {
         if at >= self.count() {
             return false;
         }
-        match letter(self.elements, at) {
+        match self.elements.letter(at) {
             '}' | ']' => false,
-            _ => at == 0 || letter(self.elements, at - 1) != 'j',
+            _ => at == 0 || self.elements.letter(at - 1) != 'j',
         }
     }
 }
 
 // The laws that a walk of an opened tape rests on.
-pub fn walks_stand() -> u8
+pub fn walks_stand()
     ensures list { ListLaw }
     ensures object { ObjectLaw }
     ensures rows { RowsLaw }
@@ -165,6 +207,4 @@ pub fn walks_stand() -> u8
     ensures first { FirstLaw }
     ensures text { TextLaw }
     ensures letter { LetterLaw }
-{
-    0
-}
+{}

@@ -2,7 +2,6 @@
 #![tactic(auto)]
 
 ghost use Rattle.std.specs.Prelude.{◌<◌};
-ghost use Rattle.tape.specs.Opens.{Opened};
 
 #[cfg(test)]
 mod nested;
@@ -74,16 +73,12 @@ fn deep(heap: Global, depth: u32) -> Result<Vec<u8>, AllocError>
 }
 
 // Whether element `p` is `e`, and the value there ends before `next`.
-fn stands(tape: Tape<'_>, p: u32, e: TapeElement, next: u32) -> bool
-    requires { Opened tape }
-{
+fn stands(tape: Tape<'_>, p: u32, e: TapeElement, next: u32) -> bool {
     (p as usize) < tape.count() && tape.get(p) == e && tape.next(p) == next
 }
 
 // Whether a leaf sees this text at `p`.
-fn shows(tape: Tape<'_>, p: u32, text: &[u8]) -> bool
-    requires { Opened tape }
-{
+fn shows(tape: Tape<'_>, p: u32, text: &[u8]) -> bool {
     if p as usize >= tape.count() {
         return false;
     }
@@ -94,9 +89,7 @@ fn shows(tape: Tape<'_>, p: u32, text: &[u8]) -> bool
 }
 
 // Whether a leaf sees this whole number at `p`.
-fn holds(tape: Tape<'_>, p: u32, n: i64) -> bool
-    requires { Opened tape }
-{
+fn holds(tape: Tape<'_>, p: u32, n: i64) -> bool {
     if p as usize >= tape.count() {
         return false;
     }

@@ -1,26 +1,22 @@
 -- A text has a reading exactly where its parts are proper, and then just the one.
-use Rattle.std.proofs.Common.{◌≡◌, ℕ, suc, ◌+◌, ◌<◌, ◌≤◌, Bool, true, false, cond, not, eqb, ltb, leb, List, [], ◌∷◌, ◌++◌, length, get_or, take, drop, codes, sym, refl, ap, ◌∙◌, subst, ⊎_elim, one-add, arith, take-append-drop}
+use Rattle.std.proofs.Common.{◌≡◌, ℕ, suc, ◌+◌, ◌<◌, ◌≤◌, Bool, true, false, cond, List, [], ◌∷◌, ◌++◌, length, get_or, take, drop, codes, sym, refl, ap, ◌∙◌, subst, one-add, arith, take-append-drop}
 use Rattle.std.specs.Str.Parse.{AllDigits}
 use Rattle.std.specs.Char.{is_ascii_digit, digit_value}
 use Rattle.std.specs.List.{prefix_len}
-use Rattle.std.proofs.lemmas.List.{take_all, take_at, drop_at, append-nil}
+use Rattle.std.proofs.lemmas.Grind.{common_steps}
+use Rattle.std.proofs.lemmas.List.{take_at, drop_at, append-nil}
 use Rattle.std.proofs.lemmas.Str.Parse.{digit_from_value}
 use Rattle.std.proofs.lemmas.Str.{digit_value_digit}
-use Rattle.std.proofs.lemmas.Bool.{eq-eqb, ne_eqb, lt-ltb, le-leb, cond-true, cond-false, and_from, and_left, and_right, and_parts, both_ways, or_left, or_right, or_cases, not-true, not_from_false, eqb-true, eqb-false, ltb-true, leb-true, cases_eq}
+use Rattle.std.proofs.lemmas.Bool.{eq-eqb, ne_eqb, lt-ltb, le-leb, cond-true, cond-false, and_from, and_left, and_right, and_parts, both_ways, false_from_ne_true}
 use Rattle.thousandths.specs.Decimal.{Decimal, Unread, pointed}
-use Rattle.thousandths.proofs.Fronts.{not_yes}
 use Rattle.thousandths.specs.Split.{minus_of, unsigned, front, behind, whole_fits, decimals_fit, proper}
 
 -- the two words for a digit
 value_ascii : (c : ℕ) → digit_value c < 10 → is_ascii_digit c ≡ true
-value_ascii c h = let d = digit_from_value c h in and_from _ _ (le-leb 48 c d.0) (le-leb c 57 d.1)
+value_ascii c h = grind (arith, digit_from_value)
 
 ascii_value : (c : ℕ) → is_ascii_digit c ≡ true → digit_value c < 10
-ascii_value c h =
-    let p = and_parts (leb 48 c) (leb c 57) h in
-    let low = leb-true 48 c p.0 in
-    let high = leb-true c 57 p.1 in
-    omega (arith, digit_value_digit c (low, high))
+ascii_value c h = grind (arith, digit_value_digit)
 
 -- the digits in front
 front_digits : (s : List ℕ) → AllDigits 10 (front s)
@@ -38,25 +34,17 @@ front_digits (x ∷ xs) = go (front_digits xs) (is_ascii_digit x) refl
 
 leading_digits : (w r : List ℕ) → AllDigits 10 w → prefix_len is_ascii_digit r ≡ 0 → prefix_len is_ascii_digit (w ++ r) ≡ length w
 leading_digits [] r all none = none
-leading_digits (x ∷ xs) r all none =
-    cond-true _ _ _ (value_ascii x all.0) ∙ one-add _ ∙ ap suc (leading_digits xs r all.1 none)
+leading_digits (x ∷ xs) r all none = grind (arith, value_ascii x, leading_digits xs r)
 
 all_digits : (ds : List ℕ) → prefix_len is_ascii_digit ds ≡ length ds → AllDigits 10 ds
-all_digits ds h =
-    let P : List ℕ → Type 0 = AllDigits 10 in
-    subst P (take_all (prefix_len is_ascii_digit ds) ds (omega arith)) (front_digits ds)
+all_digits ds h = grind (arith, common_steps, front_digits ds)
 
 leading_all : (ds : List ℕ) → AllDigits 10 ds → prefix_len is_ascii_digit ds ≡ length ds
 leading_all ds all = ap (prefix_len is_ascii_digit) (sym (append-nil ds)) ∙ leading_digits ds [] all refl
 
 -- from the parts to the text
 sign_spelled : (t : List ℕ) → t ≡ cond (minus_of t) (codes "-") [] ++ unsigned t
-sign_spelled [] = refl
-sign_spelled (x ∷ xs) = go (eqb x 45) refl
-  where
-    go : (b : Bool) → eqb x 45 ≡ b → x ∷ xs ≡ cond (eqb x 45) (codes "-") [] ++ cond (eqb x 45) xs (x ∷ xs)
-    go true e = ap (λ (c : ℕ). c ∷ xs) (eqb-true x 45 e) ∙ ap (λ (b : Bool). cond b (codes "-") [] ++ cond b xs (x ∷ xs)) (sym e)
-    go false e = ap (λ (b : Bool). cond b (codes "-") [] ++ cond b xs (x ∷ xs)) (sym e)
+sign_spelled t = grind arith
 
 record Tail (r : List ℕ) : Type 0 where
   is : r ≡ pointed (drop 1 r)
@@ -64,20 +52,7 @@ record Tail (r : List ℕ) : Type 0 where
   few : length (drop 1 r) ≤ 18
 
 tail_of : (r : List ℕ) → decimals_fit r ≡ true → Tail r
-tail_of [] h = record { is = refl; digits = tt; few = omega arith }
-tail_of (x ∷ ds) h =
-    let p = and_parts (eqb x 46) _ h in
-    let q = and_parts (eqb (prefix_len is_ascii_digit ds) (length ds)) _ p.1 in
-    let s = and_parts (ltb 0 (length ds)) (leb (length ds) 18) q.1 in
-    record {
-      is = point ds (eqb-true x 46 p.0) (ltb-true 0 (length ds) s.0);
-      digits = all_digits ds (eqb-true _ _ q.0);
-      few = leb-true (length ds) 18 s.1;
-    }
-  where
-    point : (ds : List ℕ) → x ≡ 46 → 0 < length ds → x ∷ ds ≡ pointed ds
-    point [] e some = absurd (omega arith)
-    point (d ∷ ds) e some = ap (λ (c : ℕ). c ∷ d ∷ ds) e
+tail_of r h = grind (arith, all_digits)
 
 record Whole (w : List ℕ) : Type 0 where
   some : 1 ≤ length w
@@ -85,18 +60,10 @@ record Whole (w : List ℕ) : Type 0 where
   lead : get_or w 0 0 ≡ 48 → length w ≡ 1
 
 whole_of : (w : List ℕ) → whole_fits w ≡ true → Whole w
-whole_of w h =
-    let p = and_parts (ltb 0 (length w)) _ h in
-    let q = and_parts (leb (length w) 12) _ p.1 in
-    record {
-      some = ltb-true 0 (length w) p.0;
-      few = leb-true (length w) 12 q.0;
-      lead = λ e. ⊎_elim (λ (one : eqb (length w) 1 ≡ true). eqb-true (length w) 1 one) (λ (no : not (eqb (get_or w 0 0) 48) ≡ true). absurd (eqb-false (get_or w 0 0) 48 (not-true _ no) e)) (or_cases (eqb (length w) 1) _ q.1);
-    }
+whole_of w h = grind arith
 
 whole-fits : (w : List ℕ) → Whole w → whole_fits w ≡ true
-whole-fits w h =
-    and_from _ _ (lt-ltb 0 (length w) h.some) (and_from _ _ (le-leb (length w) 12 h.few) (⊎_elim (λ (one : length w ≡ 1). or_left _ _ (eq-eqb (length w) 1 one)) (λ (more : length w ≡ 1 → ⊥). or_right (eqb (length w) 1) _ (not_from_false _ (ne_eqb (get_or w 0 0) 48 (λ e. more (h.lead e))))) (cases_eq (length w) 1)))
+whole-fits w h = grind arith
 
 pub reads : (t : List ℕ) → proper t ≡ true → Decimal t (minus_of t) (front (unsigned t)) (drop 1 (behind (unsigned t)))
 reads t h =
@@ -127,12 +94,10 @@ point_fits (x ∷ xs) all few =
     and_from _ _ (eq-eqb _ _ (leading_all (x ∷ xs) all)) (and_from _ _ (lt-ltb 0 (length (x ∷ xs)) (omega arith)) (le-leb (length (x ∷ xs)) 18 few))
 
 point_none : (d : List ℕ) → prefix_len is_ascii_digit (pointed d) ≡ 0
-point_none [] = refl
-point_none (x ∷ xs) = refl
+point_none d = grind arith
 
 point_drop : (d : List ℕ) → d ≡ drop 1 (pointed d)
-point_drop [] = refl
-point_drop (x ∷ xs) = refl
+point_drop d = grind arith
 
 -- a text without its sign
 read_size : (t : List ℕ) (m : Bool) (w d : List ℕ) → m ≡ minus_of t → w ++ pointed d ≡ unsigned t → AllDigits 10 w → Whole w → AllDigits 10 d → length d ≤ 18 → Read t m w d
@@ -169,7 +134,7 @@ pub unread : (t : List ℕ) → proper t ≡ false → Unread t
 unread t bad m w d r = both_ways (proper t) bad (read_by t m w d r).good
 
 pub not_proper : (t : List ℕ) → Unread t → proper t ≡ false
-not_proper t h = not_yes (proper t) (λ ok. h _ _ _ (reads t ok))
+not_proper t h = false_from_ne_true (proper t) (λ ok. h _ _ _ (reads t ok))
 
 -- the parts as the code has them
 pub reads_as : (t s : List ℕ) (m : Bool) (w r d : List ℕ) → m ≡ minus_of t → s ≡ unsigned t → w ≡ front s → r ≡ behind s → whole_fits w ≡ true → decimals_fit r ≡ true → d ≡ drop 1 r → Decimal t m w d

@@ -1,6 +1,6 @@
 -- The nearest whole number: there is one, and no other.
 use Rattle.std.proofs.Common.{◌≡◌, ℕ, ◌+◌, ◌*◌, ◌/◌, ◌%◌, ◌<◌, ◌≤◌, sym, ap, ◌∙◌, subst, ⊎_elim, mul-le-mul_right, mod-lt, mul_assoc, add-mul, one-mul, div-add-mod', arith}
-use Rattle.std.proofs.lemmas.Bool.{cases_lt, cases_order, cond-true, cond-false, lt-ltb, le-ltb, eq-eqb, ne_eqb}
+use Rattle.std.proofs.lemmas.Bool.{cases_lt, cases_order}
 use Rattle.thousandths.specs.Ties.{ties}
 use Rattle.thousandths.specs.Nearest.{Nearest, apart, nearest_to}
 use Rattle.thousandths.proofs.Halves.{ties_near}
@@ -41,13 +41,13 @@ half_at : (a b q r : ℕ) → Left a b q r → 2 * r ≡ b → 2 * a ≡ (2 * q 
 half_at a b q r l h = omega (arith, odd q b)
 
 pub low_is : (a b : ℕ) → 2 * (a % b) < b → nearest_to a b ≡ a / b
-low_is a b h = cond-true _ _ _ (lt-ltb _ b h)
+low_is a b h = grind arith
 
 pub half_is : (a b : ℕ) → 2 * (a % b) ≡ b → nearest_to a b ≡ ties (a / b)
-half_is a b h = cond-false _ _ _ (le-ltb _ b (omega arith)) ∙ cond-true _ _ _ (eq-eqb _ b h)
+half_is a b h = grind arith
 
 pub high_is : (a b : ℕ) → b < 2 * (a % b) → nearest_to a b ≡ a / b + 1
-high_is a b h = cond-false _ _ _ (le-ltb _ b (omega arith)) ∙ cond-false _ _ _ (ne_eqb _ b (omega arith))
+high_is a b h = grind arith
 
 nearest_low : (a b q r : ℕ) → Left a b q r → 2 * r < b → Nearest a b q
 nearest_low a b q r l h =

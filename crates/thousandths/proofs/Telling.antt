@@ -1,5 +1,5 @@
 -- The computed answer is the one that the text says.
-use Rattle.std.proofs.Common.{◌≡◌, ℕ, zero, suc, ◌-◌, ◌/◌, ◌^◌, ◌<◌, Bool, true, eqb, List, length, drop, ℤ, pos, negsuc, nat_abs, Some, None, Option, sym, refl, ap, ◌∙◌, subst, arith, w64, of_z}
+use Rattle.std.proofs.Common.{◌≡◌, ℕ, zero, suc, ◌-◌, ◌/◌, ◌^◌, ◌<◌, Bool, true, List, length, drop, ℤ, pos, negsuc, nat_abs, Some, None, Option, sym, refl, ap, ◌∙◌, subst, arith}
 use native.Mathlib.Nat.{pow-le-pow_right}
 use Rattle.std.proofs.lemmas.Bool.{cond_both, cond-true, cond-false, lt-ltb, le-ltb}
 use Rattle.thousandths.specs.Decimal.{Decimal, Unread, unit}
@@ -7,11 +7,10 @@ use Rattle.thousandths.specs.Says.{Says, Tells, signed_by}
 use Rattle.thousandths.specs.Split.{minus_of, unsigned, front, behind, proper, size_of, thousandths_of}
 use Rattle.octets.specs.Numbers.{le, number as number_of}
 use Rattle.octets.proofs.Pieces.{number-le}
-use Rattle.tape.specs.View.{object, list, string, number, i64, i32, bool, null, twos}
-use Rattle.leaf.specs.Bytes.{AreBytes, Valued, GivesBytes}
+use Rattle.tape.specs.View.{twos}
+use Rattle.leaf.specs.Bytes.{AreBytes, GivesBytes}
 use Rattle.leaf.specs.Laws.{Fits}
-use Rattle.leaf.specs.Meaning.{value}
-use Rattle.thousandths.specs.Means.{Right, RightAnswers, WellLaid, thousandths_leaf, answer_of, eight, whole_of}
+use Rattle.thousandths.specs.Means.{Right, RightAnswers, WellLaid, thousandths_leaf, answer_of, eight}
 use Rattle.thousandths.proofs.Readings.{reads, read_by, unread, not_proper}
 use Rattle.thousandths.proofs.Rounds.{nearest_is, nearest_only}
 
@@ -52,17 +51,9 @@ right_answers t = by (thousandths_of t) (tells_all t)
     by (Some z) h = (z, h, refl)
     by None h = h
 
-eight_fits : (o : Option ℤ) (bs : List ℕ) → answer_of o ≡ value bs → eqb (length bs) 8 ≡ true
-eight_fits (Some z) bs e = let s : bs ≡ eight z = cc in ap (λ (n : ℕ). eqb n 8) (ap length s)
-eight_fits None bs e = let z : ◌≡◌ {A = ℕ} 0 1 = cc in absurd (omega arith)
-
 le_bytes : (w n : ℕ) → AreBytes (le w n)
 le_bytes zero n = tt
 le_bytes (suc w) n = (omega arith, le_bytes w (n / 256))
-
-eight_bytes : (o : Option ℤ) → Valued AreBytes (answer_of o)
-eight_bytes (Some z) = le_bytes 8 (of_z w64 z)
-eight_bytes None = tt
 
 eight_reads : (z : ℤ) → nat_abs z < 2 ^ 63 → twos (2 ^ 63) (number_of (eight z)) ≡ z
 eight_reads (pos n) h =
@@ -76,24 +67,10 @@ pub well_laid : WellLaid
 well_laid = record { fits = fits; bytes = bytes; reads = eight_reads }
   where
     fits : Fits thousandths_leaf
-    fits object bs e = eight_fits None bs e
-    fits list bs e = eight_fits None bs e
-    fits (string t) bs e = eight_fits None bs e
-    fits (number t) bs e = eight_fits (thousandths_of t) bs e
-    fits (i64 z) bs e = eight_fits (whole_of z) bs e
-    fits (i32 z) bs e = eight_fits (whole_of z) bs e
-    fits (bool b) bs e = eight_fits None bs e
-    fits null bs e = let z : ◌≡◌ {A = ℕ} 0 1 = cc in absurd (omega arith)
+    fits e bs is = grind arith
 
     bytes : GivesBytes thousandths_leaf
-    bytes object h = tt
-    bytes list h = tt
-    bytes (string t) h = tt
-    bytes (number t) h = eight_bytes (thousandths_of t)
-    bytes (i64 z) h = eight_bytes (whole_of z)
-    bytes (i32 z) h = eight_bytes (whole_of z)
-    bytes (bool b) h = tt
-    bytes null h = tt
+    bytes e h = grind (arith, le_bytes)
 
 -- what the code computes, and what it is of
 pub answered : (t : List ℕ) (m : Bool) (w d : List ℕ) (z : ℤ) → Decimal t m w d → z ≡ signed_by m (size_of w d) → Some z ≡ thousandths_of t

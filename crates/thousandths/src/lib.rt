@@ -18,8 +18,8 @@ use leaf::layout::{Layout, Reply};
 use tape::element::Element;
 
 // Takes numbers, and keeps their thousandths in eight bytes.
-#[derive(Clone, Copy)]
-pub struct Thousandths {}
+#[derive(Clone, Copy, PartialEq, Eq, Debug, Default)]
+pub struct Thousandths;
 
 // The thousandths that an element holds.
 fn found(e: Element) -> Option<i64>
@@ -43,12 +43,10 @@ impl Leaf for Thousandths {
     }
 
     fn answer(&self, e: Element) -> Reply {
-        if let Element::Null = e {
-            return Reply::Null;
-        }
-        match found(e) {
-            Some(_) => Reply::Value(8),
-            None => Reply::Conflict,
+        match e {
+            Element::Null => Reply::Null,
+            _ if found(e).is_some() => Reply::Value(8),
+            _ => Reply::Conflict,
         }
     }
 

@@ -1,62 +1,48 @@
-use Rattle.std.proofs.Common.{length, sym, refl, ◌∙◌, subst, length-take}
+use Rattle.std.proofs.Common.{length, take, Err, sym, refl, ap, ◌∙◌, subst, length-take}
+use Rattle.std.proofs.lemmas.Result.{err_from_is_err_and}
+use Rattle.slip.specs.Slips.{Got, refuse, got, then, slip_of}
+use Rattle.tape.specs.Opened.{view_of}
 use Rattle.laws.specs.Calls.{Cell, cell_at}
-use Rattle.tape.specs.View.{view}
-use Rattle.slip.specs.Slips.{slip_of}
-use Rattle.shelf.specs.Standing.{setup_in}
-use Rattle.replay.specs.Replay.{Asks, ShelveFrom}
-use Rattle.replay.proofs.Replays.{cell-said, cell_refused, lent_is}
+use Rattle.shelf.specs.Shelves.{setup_in}
+use Rattle.replay.specs.Replay.{said, view_in, Asks, ShelveFrom}
+use Rattle.replay.proofs.Replays.{shelved, lent_is, cell_said, cell_refused}
 use Rattle.replay.proofs.make.Goals as goal
 
-pub cell-requires : goal.cell-requires
-cell-requires g c = c.requires
+pub returns-in_err-shelve-in-Shelve-clause-makes : goal.returns-in_err-shelve-in-Shelve-clause-makes
+returns-in_err-shelve-in-Shelve-clause-makes g c = λ root size held h.
+    let line = c.in-Shelve in
+    let work = length c.args.work.now in
+    let q = shelved (setup_in c.args.shelf.now root size) held c.shelve.new.self (view_in line.tape) line.positions.now (length (take c.min-lent.result c.args.work.now)) (view_of c.in_ok-tape-in-Shelve.tape) (refuse (slip_of c.in_err-shelve-in-Shelve.field-0.0))
+    c.in_ok-tape-in-Shelve.ensures.0 c.in_ok-tape-in-Shelve.ensures.1 (c.in_err-shelve-in-Shelve.ensures.does root size held h) in
+    let p = err_from_is_err_and c.from_residual-in_err-shelve-in-Shelve.result c.from_residual-in_err-shelve-in-Shelve.ensures.1 in
+    let lent = length-take c.min-lent.result c.args.work.now ∙ lent_is line.lent work c.min-lent.result c.min-lent.ensures in (
+      q.0,
+      subst (λ l. Asks work l q.0) (sym line.is) (subst (λ n. ShelveFrom (view_in line.tape) line.positions.now n q.0) lent q.1),
+      record { answered = ap said (p.1 ∙ ap Err p.2) ∙ q.2.answered; holds = q.2.holds },
+    )
 
-pub release-requires : goal.release-requires
-release-requires g c = c.requires
+pub returns-in_ok-shelve-in-Shelve-clause-makes : goal.returns-in_ok-shelve-in-Shelve-clause-makes
+returns-in_ok-shelve-in-Shelve-clause-makes g c = λ root size held h.
+    let line = c.in-Shelve in
+    let work = length c.args.work.now in
+    let q = shelved (setup_in c.args.shelf.now root size) held c.shelve.new.self (view_in line.tape) line.positions.now (length (take c.min-lent.result c.args.work.now)) (view_of c.in_ok-tape-in-Shelve.tape) (got c.in_ok-shelve-in-Shelve.field-0)
+    c.in_ok-tape-in-Shelve.ensures.0 c.in_ok-tape-in-Shelve.ensures.1 (c.in_ok-shelve-in-Shelve.ensures.does root size held h) in
+    let lent = length-take c.min-lent.result c.args.work.now ∙ lent_is line.lent work c.min-lent.result c.min-lent.ensures in
+    (q.0, subst (λ l. Asks work l q.0) (sym line.is) (subst (λ n. ShelveFrom (view_in line.tape) line.positions.now n q.0) lent q.1), q.2)
 
-pub count-batches-requires : goal.count-batches-requires
-count-batches-requires g c = c.requires
+pub returns-in_err-kind-in-Cell-clause-makes : goal.returns-in_err-kind-in-Cell-clause-makes
+returns-in_err-kind-in-Cell-clause-makes g c = λ root size held h.
+    let p = err_from_is_err_and c.from_residual-in_err-kind-in-Cell.result c.from_residual-in_err-kind-in-Cell.ensures.1 in
+    let call = Cell c.in-Cell.batch c.in-Cell.node c.in-Cell.slot in (
+      call,
+      subst (λ l. Asks (length c.args.work.now) l call) (sym c.in-Cell.is) refl,
+      record { answered = ap said (p.1 ∙ ap Err p.2) ∙ cell_refused (cell_at (setup_in c.args.shelf.now root size) held c.in-Cell.batch c.in-Cell.node c.in-Cell.slot) _ (c.in_err-kind-in-Cell.ensures root size held h); holds = h },
+    )
 
-pub returns-in-Shelve : goal.returns-in-Shelve
-returns-in-Shelve g c = record {
-  makes = λ root size held h.
-      let q = c.shelve_from.ensures.makes root size held h in
-      (q.0, subst (λ l. Asks (length c.args.work.now) l q.0) (sym c.in-Shelve.is) (subst (λ n. ShelveFrom (view c.in-Shelve.elements.now c.in-Shelve.texts.now c.in-Shelve.offsets.now) c.in-Shelve.positions.now n q.0) (length-take c.min-lent.result c.args.work.now ∙ lent_is c.in-Shelve.lent (length c.args.work.now) c.min-lent.result c.min-lent.ensures) q.1), record { answered = c.numbered.ensures ∙ q.2.answered; holds = q.2.holds });
-  page = c.shelve_from.ensures.page;
-  schema = c.shelve_from.ensures.schema;
-  settings = c.shelve_from.ensures.settings;
-  custom = c.shelve_from.ensures.custom;
-}
-
-pub returns-in-Ok : goal.returns-in-Ok
-returns-in-Ok g c = record {
-  makes = λ root size held h.
-      let call = Cell c.in-Cell.batch c.in-Cell.node c.in-Cell.slot in (
-        call,
-        subst (λ l. Asks (length c.args.work.now) l call) (sym c.in-Cell.is) refl,
-        record {
-          answered = cell-said (cell_at (setup_in g.X.Leaf.meaning c.args.shelf.now root size) held c.in-Cell.batch c.in-Cell.node c.in-Cell.slot) c.in-Ok.kind c.in-Ok.first c.in-Ok.second (c.in-Ok.ensures root size held h);
-          holds = h;
-        },
-      );
-  page = refl;
-  schema = refl;
-  settings = refl;
-  custom = refl;
-}
-
-pub returns-in-Err : goal.returns-in-Err
-returns-in-Err g c = record {
-  makes = λ root size held h.
-      let call = Cell c.in-Cell.batch c.in-Cell.node c.in-Cell.slot in (
-        call,
-        subst (λ l. Asks (length c.args.work.now) l call) (sym c.in-Cell.is) refl,
-        record {
-          answered = cell_refused (cell_at (setup_in g.X.Leaf.meaning c.args.shelf.now root size) held c.in-Cell.batch c.in-Cell.node c.in-Cell.slot) (slip_of c.in-Err.fault) (c.in-Err.ensures root size held h);
-          holds = h;
-        },
-      );
-  page = refl;
-  schema = refl;
-  settings = refl;
-  custom = refl;
-}
+pub returns-in_ok-kind-in-Cell-clause-makes : goal.returns-in_ok-kind-in-Cell-clause-makes
+returns-in_ok-kind-in-Cell-clause-makes g c = λ root size held h.
+    let call = Cell c.in-Cell.batch c.in-Cell.node c.in-Cell.slot in (
+      call,
+      subst (λ l. Asks (length c.args.work.now) l call) (sym c.in-Cell.is) refl,
+      record { answered = cell_said (cell_at (setup_in c.args.shelf.now root size) held c.in-Cell.batch c.in-Cell.node c.in-Cell.slot) _ _ _ (c.in_ok-kind-in-Cell.ensures root size held h); holds = h },
+    )

@@ -1,20 +1,22 @@
-use Rattle.std.proofs.Common.{sym, refl, ◌∙◌}
-use Rattle.tape.specs.Opens.{view_of}
-use Rattle.shelf.proofs.Positions.{one_more, bad_here, all_done}
+use Rattle.std.proofs.Common.{◌≡◌, sym, ap, ◌∙◌, rules, tests}
+use Rattle.std.specs.List.{position_from}
+use Rattle.std.proofs.lemmas.Iterator.{YieldsList-from_slice}
+use Rattle.std.proofs.lemmas.Iterator.Adapters.{position_from-zero}
+use Rattle.std.proofs.lemmas.Iterator.Search.{position_from_yields_List}
+use Rattle.tape.specs.Opened.{view_of}
+use Rattle.shelf.proofs.Positions.{is_bad, told, found}
 use Rattle.shelf.proofs.check_positions.Goals as goal
 
-pub loop-index-init : goal.loop-index-init
-loop-index-init c = refl
+pub returns-in-Some : goal.returns-in-Some
+returns-in-Some c =
+    let bad = is_bad (view_of c.args.tape) in
+    let e : c.position.result ≡ position_from bad 0 c.args.positions.now =
+    position_from_yields_List bad _ _ c.position.result c.position.ensures.ran (YieldsList-from_slice _ c.iter.ensures.rest) (λ x b q k. search (rules, tests)) ∙ position_from-zero bad c.args.positions.now in
+    ap (told (view_of c.args.tape)) (sym c.in-Some.is ∙ e) ∙ found (view_of c.args.tape) 0 c.args.positions.now
 
-pub loop-index-preserved : goal.loop-index-preserved
-loop-index-preserved c =
-    let i = c.loop-index.index in
-    c.loop-index.invariant ∙ one_more (view_of c.args.tape) i c.args.positions.now c.loop-index-test.true (sym c.is_position.ensures ∙ c.if-not-is_position.false)
-
-pub returns-then-not-is_position : goal.returns-then-not-is_position
-returns-then-not-is_position c =
-    let i = c.loop-index.index in
-    sym (c.loop-index.invariant ∙ bad_here (view_of c.args.tape) i c.args.positions.now c.loop-index-test.true (sym c.is_position.ensures ∙ c.if-not-is_position.true))
-
-pub returns : goal.returns
-returns c = sym (c.loop-index.invariant ∙ all_done (view_of c.args.tape) c.loop-index.index c.args.positions.now c.loop-index-test.false)
+pub returns-in-None : goal.returns-in-None
+returns-in-None c =
+    let bad = is_bad (view_of c.args.tape) in
+    let e : c.position.result ≡ position_from bad 0 c.args.positions.now =
+    position_from_yields_List bad _ _ c.position.result c.position.ensures.ran (YieldsList-from_slice _ c.iter.ensures.rest) (λ x b q k. search (rules, tests)) ∙ position_from-zero bad c.args.positions.now in
+    ap (told (view_of c.args.tape)) (sym c.in-None.is ∙ e) ∙ found (view_of c.args.tape) 0 c.args.positions.now

@@ -1,117 +1,79 @@
-use Rattle.std.proofs.Common.{◌≡◌, ◌+◌, ◌*◌, ◌||◌, length, ap, ◌∙◌, add-mul, arith, rules}
+use Rattle.std.proofs.Common.{◌≡◌, ◌∷◌, length, Ok, Err, sym, refl, ap, ◌∙◌, subst, arith}
 use Rattle.std.proofs.lemmas.Result.{err_from_is_err_and}
-use Rattle.tape.specs.Opens.{view_of}
-use Rattle.schema.specs.Tree.{Node, field_of}
-use Rattle.schema.specs.Held.{Held}
-use Rattle.schema.specs.Opened.{records_of, names_of}
+use Rattle.schema.specs.Children.{rest}
 use Rattle.schema.proofs.Nodes.{held_written}
-use Rattle.nodes.specs.Nodes.{below_of}
-use Rattle.nodes.proofs.Walking.{not_entered, kids_fit, kids_few, next_within, next_blank, begun, child_is, child_below, child_ready, walked_one, walked_none, lies, walked_all, row_within}
+use Rattle.nodes.specs.Contract.{seen, visited, Ready, Walked}
+use Rattle.nodes.proofs.Walking.{Inside, not_entered, kids_fit, kids_few, next_within, next_blank, mine_positions, mine_few, begun, seen_child, child_below, child_enough, child_ready, walked_one, walked_none, lies, walked_all}
 use Rattle.walk.proofs.+walk.Goals as goal
+use Rattle.walk.proofs.+walk.Goals.{In_ok-kids, After-visit_child}
+
+-- the node was entered
+entered : (g : _) (t : _) (c : In_ok-kids g t) → Inside (seen g.X.Leaf.meaning c.args.named.frame c.args.visit) c.args.area.now c.args.work.now c.args.top.now c.enter.new.area c.enter.new.work c.in_ok-kids.field-0
+entered g t c = record { ready = c.requires.ready; enters = c.in_ok-kids.ensures; long = omega arith; lent-long = omega arith }
 
 pub returns-in_err-kids : goal.returns-in_err-kids
 returns-in_err-kids g t c =
     let p = err_from_is_err_and c.from_residual.result c.from_residual.ensures.1 in
-    not_entered c.args.frame.settings (g.X.Leaf.meaning c.args.custom.now) (view_of c.args.frame.tape) (records_of c.args.frame.schema) (names_of c.args.frame.schema) c.args.node c.args.in_force c.args.rows.now c.args.area.now c.args.work.now c.args.top.now c.requires.ready c.enter.new.area c.enter.new.work p.0 c.in_err-kids.field-0.0 c.from_residual.result p.1 p.2 c.in_err-kids.ensures
-
-pub below-forced-requires : goal.below-forced-requires
-below-forced-requires g t c = (held_written c.requires.ready.formed.1).within
+    not_entered (seen g.X.Leaf.meaning c.args.named.frame c.args.visit) c.args.area.now c.args.work.now c.args.top.now c.requires.ready c.enter.new.area c.enter.new.work p.0 c.in_err-kids.field-0.0 c.from_residual.result p.1 p.2 c.in_err-kids.ensures
 
 pub overflow_mul-kids : goal.overflow_mul-kids
-overflow_mul-kids g t c =
-    let long : length c.enter.new.area ≡ length c.args.area.now = omega arith in
-    let lent-long : length c.enter.new.work ≡ length c.args.work.now = omega arith in
-    let fits = kids_fit c.args.frame.settings (g.X.Leaf.meaning c.args.custom.now) (view_of c.args.frame.tape) (records_of c.args.frame.schema) (names_of c.args.frame.schema) c.args.node c.args.in_force c.args.rows.now c.args.area.now c.args.work.now c.args.top.now c.requires.ready c.enter.new.area c.enter.new.work c.in_ok-kids.field-0 c.in_ok-kids.ensures long lent-long in
-    omega (arith, fits, c.requires.ready.lent)
+overflow_mul-kids g t c = let few = kids_few (entered g t (goal.at.overflow_mul-kids g t c).In_ok-kids) in omega (arith, few)
 
 pub split_at_mut-mine-requires : goal.split_at_mut-mine-requires
-split_at_mut-mine-requires g t c =
-    let long : length c.enter.new.area ≡ length c.args.area.now = omega arith in
-    let lent-long : length c.enter.new.work ≡ length c.args.work.now = omega arith in
-    kids_fit c.args.frame.settings (g.X.Leaf.meaning c.args.custom.now) (view_of c.args.frame.tape) (records_of c.args.frame.schema) (names_of c.args.frame.schema) c.args.node c.args.in_force c.args.rows.now c.args.area.now c.args.work.now c.args.top.now c.requires.ready c.enter.new.area c.enter.new.work c.in_ok-kids.field-0 c.in_ok-kids.ensures long lent-long
+split_at_mut-mine-requires g t c = kids_fit (entered g t (goal.at.split_at_mut-mine-requires g t c).In_ok-kids)
 
-pub overflow_add-child : goal.overflow_add-child
-overflow_add-child g t c = let h = (held_written c.requires.ready.formed.1).within in search rules
+pub children-child-items-requires : goal.children-child-items-requires
+children-child-items-requires g t c = (held_written c.requires.ready.formed.1).within
 
-pub loop-k-init : goal.loop-k-init
-loop-k-init g t c =
-    let long : length c.enter.new.area ≡ length c.args.area.now = omega arith in
-    let lent-long : length c.enter.new.work ≡ length c.args.work.now = omega arith in
-    let sp = c.split_at_mut-mine.ensures in
-    let mine = c.split_at_mut-mine.result.0.now in
-    let deeper = c.split_at_mut-mine.result.1.now in (
-      next_within c.args.frame.settings (g.X.Leaf.meaning c.args.custom.now) (view_of c.args.frame.tape) (records_of c.args.frame.schema) (names_of c.args.frame.schema) c.args.node c.args.in_force c.args.rows.now c.args.area.now c.args.work.now c.args.top.now c.requires.ready c.enter.new.area c.enter.new.work c.in_ok-kids.field-0 c.in_ok-kids.ensures long lent-long,
-      next_blank c.args.frame.settings (g.X.Leaf.meaning c.args.custom.now) (view_of c.args.frame.tape) (records_of c.args.frame.schema) (names_of c.args.frame.schema) c.args.node c.args.in_force c.args.rows.now c.args.area.now c.args.work.now c.args.top.now c.requires.ready c.enter.new.area c.enter.new.work c.in_ok-kids.field-0 c.in_ok-kids.ensures long lent-long,
-      begun c.args.frame.settings (g.X.Leaf.meaning c.args.custom.now) (view_of c.args.frame.tape) (records_of c.args.frame.schema) (names_of c.args.frame.schema) c.args.node c.args.in_force c.args.rows.now c.args.area.now c.args.work.now c.args.top.now c.requires.ready c.enter.new.area c.enter.new.work c.in_ok-kids.field-0 c.in_ok-kids.ensures long lent-long mine deeper sp.value sp.front_len,
+pub loop-child-init : goal.loop-child-init
+loop-child-init g t c =
+    let i = entered g t (goal.at.loop-child-init g t c).In_ok-kids in
+    let sp = c.split_at_mut-mine.ensures in (
+      tt,
+      tt,
+      refl,
+      mine_positions i _ _ sp.value sp.front_len,
+      mine_few i _ _ sp.value sp.front_len,
+      next_within i,
+      next_blank i,
+      begun i _ _ sp.value sp.front_len (rest c.into_iter-child-iterator.result) (λ T h. ap rest c.into_iter-child-iterator.ensures.into_iter_gives ∙ c.children-child-items.ensures.node T h),
     )
 
-pub child_in_force-requires : goal.child_in_force-requires
-child_in_force-requires g t c =
-    let long : length c.enter.new.area ≡ length c.args.area.now = omega arith in
-    let lent-long : length c.enter.new.work ≡ length c.args.work.now = omega arith in
+pub invariant_of-rows : goal.invariant_of-rows
+invariant_of-rows g t c = record { taken = c.loop-child.invariant.3; few = c.loop-child.invariant.4 }
+
+pub visit_child-requires-clause-parent : goal.visit_child-requires-clause-parent
+visit_child-requires-clause-parent g t c = (held_written c.requires.ready.formed.1).within
+
+pub visit_child-requires-clause-enough : goal.visit_child-requires-clause-enough
+visit_child-requires-clause-enough g t c =
+    let i = entered g t (goal.at.visit_child-requires-clause-enough g t c).In_ok-kids in
     let sp = c.split_at_mut-mine.ensures in
-    let mine = c.split_at_mut-mine.result.0.now in
-    let deeper = c.split_at_mut-mine.result.1.now in
-    (held_written (child_is c.args.frame.settings (g.X.Leaf.meaning c.args.custom.now) (view_of c.args.frame.tape) (records_of c.args.frame.schema) (names_of c.args.frame.schema) c.args.node c.args.in_force c.args.rows.now c.args.area.now c.args.work.now c.args.top.now c.requires.ready c.enter.new.area c.enter.new.work c.in_ok-kids.field-0 c.in_ok-kids.ensures long lent-long mine deeper sp.value sp.front_len c.loop-k.area c.loop-k.child c.loop-k.k c.loop-k.top c.loop-k-test.true c.loop-k.invariant.2).1).within
+    child_enough i _ _ sp.value sp.front_len _ _ c.loop-child.area c.loop-child.top c.loop-child.invariant.7 c.in-Some.ensures.steps
 
-pub overflow_mul-k : goal.overflow_mul-k
-overflow_mul-k g t c =
-    let long : length c.enter.new.area ≡ length c.args.area.now = omega arith in
-    let lent-long : length c.enter.new.work ≡ length c.args.work.now = omega arith in
-    let e = c.in_ok-kids.field-0 in
-    let few = kids_few c.args.frame.settings (g.X.Leaf.meaning c.args.custom.now) (view_of c.args.frame.tape) (records_of c.args.frame.schema) (names_of c.args.frame.schema) c.args.node c.args.in_force c.args.rows.now c.args.area.now c.args.work.now c.args.top.now c.requires.ready c.enter.new.area c.enter.new.work c.in_ok-kids.field-0 c.in_ok-kids.ensures long lent-long in
-    let fit = row_within c.loop-k.k e.kids e.stride c.loop-k-test.true in
-    let m : (c.loop-k.k + 1) * e.stride ≡ c.loop-k.k * e.stride + 1 * e.stride = add-mul c.loop-k.k 1 e.stride in
-    omega (arith, fit, few, m)
+-- the child that is visited is the next of the children, and its rows lie in the same tape
+turn : (g : _) (t : _) (c : After-visit_child g t) → rest c.loop-child.child-iterator ≡ c.visit_child.result.0.node ∷ rest c.next.new.self
+turn g t c = c.in-Some.ensures.steps ∙ ap (λ n. n ∷ rest c.next.new.self) (sym c.visit_child.ensures.node)
 
-pub overflow_mul-k-in-loop-k : goal.overflow_mul-k-in-loop-k
-overflow_mul-k-in-loop-k g t c =
-    let long : length c.enter.new.area ≡ length c.args.area.now = omega arith in
-    let lent-long : length c.enter.new.work ≡ length c.args.work.now = omega arith in
-    let e = c.in_ok-kids.field-0 in
-    let few = kids_few c.args.frame.settings (g.X.Leaf.meaning c.args.custom.now) (view_of c.args.frame.tape) (records_of c.args.frame.schema) (names_of c.args.frame.schema) c.args.node c.args.in_force c.args.rows.now c.args.area.now c.args.work.now c.args.top.now c.requires.ready c.enter.new.area c.enter.new.work c.in_ok-kids.field-0 c.in_ok-kids.ensures long lent-long in
-    let fit = row_within c.loop-k.k e.kids e.stride c.loop-k-test.true in
-    let m : (c.loop-k.k + 1) * e.stride ≡ c.loop-k.k * e.stride + 1 * e.stride = add-mul c.loop-k.k 1 e.stride in
-    omega (arith, fit, few, m)
-
-pub offset_bounds-mine-k : goal.offset_bounds-mine-k
-offset_bounds-mine-k g t c =
-    let long : length c.enter.new.area ≡ length c.args.area.now = omega arith in
-    let lent-long : length c.enter.new.work ≡ length c.args.work.now = omega arith in
-    let e = c.in_ok-kids.field-0 in
-    let few = kids_few c.args.frame.settings (g.X.Leaf.meaning c.args.custom.now) (view_of c.args.frame.tape) (records_of c.args.frame.schema) (names_of c.args.frame.schema) c.args.node c.args.in_force c.args.rows.now c.args.area.now c.args.work.now c.args.top.now c.requires.ready c.enter.new.area c.enter.new.work c.in_ok-kids.field-0 c.in_ok-kids.ensures long lent-long in
-    let fit = row_within c.loop-k.k e.kids e.stride c.loop-k-test.true in
-    let m : (c.loop-k.k + 1) * e.stride ≡ c.loop-k.k * e.stride + 1 * e.stride = add-mul c.loop-k.k 1 e.stride in
-    omega (arith, fit, few, m)
-
-pub slice_bounds-walk-end : goal.slice_bounds-walk-end
-slice_bounds-walk-end g t c =
-    let e = c.in_ok-kids.field-0 in
-    let fit = row_within c.loop-k.k e.kids e.stride c.loop-k-test.true in
-    let m : (c.loop-k.k + 1) * e.stride ≡ c.loop-k.k * e.stride + 1 * e.stride = add-mul c.loop-k.k 1 e.stride in
-    omega (arith, fit, m, c.split_at_mut-mine.ensures.front_len)
+sees : (g : _) (t : _) (c : After-visit_child g t)
+    → seen g.X.Leaf.meaning c.args.named.frame c.visit_child.result.0 ≡ visited (seen g.X.Leaf.meaning c.args.named.frame c.args.visit) c.visit_child.result.0.node c.visit_child.result.0.in_force c.visit_child.result.0.rows.positions.now
+sees g t c = seen_child g.X.Leaf.meaning c.args.named.frame c.args.visit c.visit_child.result.0 (c.visit_child.ensures.tape ∙ c.loop-child.invariant.2)
 
 pub walk-requires : goal.walk-requires
 walk-requires g t c κs within =
-    let long : length c.enter.new.area ≡ length c.args.area.now = omega arith in
-    let lent-long : length c.enter.new.work ≡ length c.args.work.now = omega arith in
+    let i = entered g t (goal.at.walk-requires g t c).In_ok-kids in
+    let a = (goal.at.walk-requires g t c).After-visit_child in
     let sp = c.split_at_mut-mine.ensures in
-    let mine = c.split_at_mut-mine.result.0.now in
-    let deeper = c.split_at_mut-mine.result.1.now in
-    let deep : length c.loop-k.deeper ≡ length deeper = omega arith in
-    let long' : length c.loop-k.area ≡ length c.enter.new.area = omega arith in
-    let less = child_below c.args.frame.settings (g.X.Leaf.meaning c.args.custom.now) (view_of c.args.frame.tape) (records_of c.args.frame.schema) (names_of c.args.frame.schema) c.args.node c.args.in_force c.args.rows.now c.args.area.now c.args.work.now c.args.top.now c.requires.ready c.enter.new.area c.enter.new.work c.in_ok-kids.field-0 c.in_ok-kids.ensures long lent-long mine deeper sp.value sp.front_len c.loop-k.area c.loop-k.child c.loop-k.k c.loop-k.top c.loop-k-test.true c.loop-k.invariant.2 in (
+    let less = child_below i _ _ sp.value sp.front_len _ _ c.loop-child.area c.loop-child.top c.loop-child.invariant.7 (turn g t a) in (
       omega (arith, c.decreases, less),
       (
         within.0,
         (
-          within.1,
+          within.1.0,
           (
-            c.requires.tape,
-            (
-              c.requires.schema,
-              child_ready c.args.frame.settings (g.X.Leaf.meaning c.args.custom.now) (view_of c.args.frame.tape) (records_of c.args.frame.schema) (names_of c.args.frame.schema) c.args.node c.args.in_force c.args.rows.now c.args.area.now c.args.work.now c.args.top.now c.requires.ready c.enter.new.area c.enter.new.work c.in_ok-kids.field-0 c.in_ok-kids.ensures long lent-long mine deeper sp.value sp.front_len c.loop-k.area c.loop-k.child c.loop-k.k c.loop-k.top c.loop-k-test.true c.loop-k.invariant.2 c.loop-k.deeper deep c.loop-k.invariant.0 c.loop-k.invariant.1 long',
-            ),
+            within.1.1,
+            subst (λ v. Ready v c.loop-child.deeper c.loop-child.area c.loop-child.top) (sym (sees g t a))
+                (child_ready i _ _ sp.value sp.front_len _ _ c.loop-child.area c.loop-child.top c.loop-child.invariant.7 (turn g t a) _ _ c.loop-child.deeper (omega arith) c.loop-child.invariant.5 c.loop-child.invariant.6 (omega arith)),
           ),
         ),
       ),
@@ -119,61 +81,49 @@ walk-requires g t c κs within =
 
 pub returns-in_err-walk : goal.returns-in_err-walk
 returns-in_err-walk g t c =
-    let long : length c.enter.new.area ≡ length c.args.area.now = omega arith in
-    let lent-long : length c.enter.new.work ≡ length c.args.work.now = omega arith in
+    let i = entered g t (goal.at.returns-in_err-walk g t c).In_ok-kids in
+    let a = (goal.at.returns-in_err-walk g t c).After-visit_child in
     let sp = c.split_at_mut-mine.ensures in
-    let mine = c.split_at_mut-mine.result.0.now in
-    let deeper = c.split_at_mut-mine.result.1.now in
-    let is-forced : (T : Node) → Held (records_of c.args.frame.schema) (names_of c.args.frame.schema) c.args.node T → (d : Node) → Held (records_of c.args.frame.schema) (names_of c.args.frame.schema) c.loop-k.child d
-    → c.child_in_force.result ≡ (below_of T c.args.in_force || (field_of d).nullable) = λ T h d k.
-    c.child_in_force.ensures d k ∙ ap (λ b. b || (field_of d).nullable) (c.below-forced.ensures T h) in
-    let deep : length c.loop-k.deeper ≡ length deeper = omega arith in
-    let long' : length c.loop-k.area ≡ length c.enter.new.area = omega arith in
-    let back : length deeper + c.in_ok-kids.field-0.kids * c.in_ok-kids.field-0.stride ≡ length c.args.work.now = omega (arith, sp.back_len) in
+    let w = c.visit_child.ensures in
     let p = err_from_is_err_and c.from_residual-in_err-walk.result c.from_residual-in_err-walk.ensures.1 in
-    walked_none c.args.frame.settings (g.X.Leaf.meaning c.args.custom.now) (view_of c.args.frame.tape) (records_of c.args.frame.schema) (names_of c.args.frame.schema) c.args.node c.args.in_force c.args.rows.now c.args.area.now c.args.work.now c.args.top.now c.requires.ready c.enter.new.area c.enter.new.work c.in_ok-kids.field-0 c.in_ok-kids.ensures long lent-long mine deeper sp.value sp.front_len c.loop-k.area c.loop-k.child c.loop-k.k c.loop-k.top c.loop-k-test.true c.loop-k.invariant.2 c.child_in_force.result c.walk.new.area c.walk.new.top (length c.loop-k.deeper) deep long' is-forced
-    p.0 c.in_err-walk.field-0.0 c.from_residual-in_err-walk.result p.1 p.2 c.in_err-walk.ensures back
+    walked_none i _ _ sp.value sp.front_len _ _ c.loop-child.area c.loop-child.top c.loop-child.invariant.7 (turn g t a)
+    _ _ c.walk.new.area c.walk.new.top (length c.loop-child.deeper) c.visit_child.result.0.in_force w.halves w.short (omega arith) (omega arith) (λ T h k d. w.in_force T k h d)
+    p.0 c.in_err-walk.field-0.0 c.from_residual-in_err-walk.result p.1 p.2
+    (subst (λ v. Walked v (length c.loop-child.deeper) c.loop-child.area c.walk.new.area c.loop-child.top c.walk.new.top (Err c.in_err-walk.field-0.0)) (sees g t a) c.in_err-walk.ensures)
 
-pub end-child-requires : goal.end-child-requires
-end-child-requires g t c =
-    let long : length c.enter.new.area ≡ length c.args.area.now = omega arith in
-    let lent-long : length c.enter.new.work ≡ length c.args.work.now = omega arith in
+pub loop-child-preserved : goal.loop-child-preserved
+loop-child-preserved g t c =
+    let i = entered g t (goal.at.loop-child-preserved g t c).In_ok-kids in
+    let a = (goal.at.loop-child-preserved g t c).After-visit_child in
     let sp = c.split_at_mut-mine.ensures in
-    let mine = c.split_at_mut-mine.result.0.now in
-    let deeper = c.split_at_mut-mine.result.1.now in
-    (held_written (child_is c.args.frame.settings (g.X.Leaf.meaning c.args.custom.now) (view_of c.args.frame.tape) (records_of c.args.frame.schema) (names_of c.args.frame.schema) c.args.node c.args.in_force c.args.rows.now c.args.area.now c.args.work.now c.args.top.now c.requires.ready c.enter.new.area c.enter.new.work c.in_ok-kids.field-0 c.in_ok-kids.ensures long lent-long mine deeper sp.value sp.front_len c.loop-k.area c.loop-k.child c.loop-k.k c.loop-k.top c.loop-k-test.true c.loop-k.invariant.2).1).within
+    let w = c.visit_child.ensures in
+    let walked = c.in_ok-walk.ensures in (
+      tt,
+      tt,
+      w.same_tape ∙ c.loop-child.invariant.2,
+      c.visit_child.result.1.taken,
+      c.visit_child.result.1.few,
+      walked.within,
+      walked.blank,
+      walked_one i _ _ sp.value sp.front_len _ _ c.loop-child.area c.loop-child.top c.loop-child.invariant.7 (turn g t a)
+          _ _ c.walk.new.area c.walk.new.top (length c.loop-child.deeper) c.visit_child.result.0.in_force w.halves w.short (omega arith) (omega arith) (λ T h k d. w.in_force T k h d) c.loop-child.invariant.5
+          (subst (λ v. Walked v (length c.loop-child.deeper) c.loop-child.area c.walk.new.area c.loop-child.top c.walk.new.top (Ok tt)) (sees g t a) walked),
+    )
 
-pub loop-k-preserved : goal.loop-k-preserved
-loop-k-preserved g t c =
-    let long : length c.enter.new.area ≡ length c.args.area.now = omega arith in
-    let lent-long : length c.enter.new.work ≡ length c.args.work.now = omega arith in
+pub invariant_of-mine : goal.invariant_of-mine
+invariant_of-mine g t c =
+    let i = entered g t (goal.at.invariant_of-mine g t c).In_ok-kids in
     let sp = c.split_at_mut-mine.ensures in
-    let mine = c.split_at_mut-mine.result.0.now in
-    let deeper = c.split_at_mut-mine.result.1.now in
-    let is-forced : (T : Node) → Held (records_of c.args.frame.schema) (names_of c.args.frame.schema) c.args.node T → (d : Node) → Held (records_of c.args.frame.schema) (names_of c.args.frame.schema) c.loop-k.child d
-    → c.child_in_force.result ≡ (below_of T c.args.in_force || (field_of d).nullable) = λ T h d k.
-    c.child_in_force.ensures d k ∙ ap (λ b. b || (field_of d).nullable) (c.below-forced.ensures T h) in
-    let deep : length c.loop-k.deeper ≡ length deeper = omega arith in
-    let long' : length c.loop-k.area ≡ length c.enter.new.area = omega arith in
-    let a = c.in_ok-walk.ensures in
-    let inside = walked_one c.args.frame.settings (g.X.Leaf.meaning c.args.custom.now) (view_of c.args.frame.tape) (records_of c.args.frame.schema) (names_of c.args.frame.schema) c.args.node c.args.in_force c.args.rows.now c.args.area.now c.args.work.now c.args.top.now c.requires.ready c.enter.new.area c.enter.new.work c.in_ok-kids.field-0 c.in_ok-kids.ensures long lent-long mine deeper sp.value sp.front_len c.loop-k.area c.loop-k.child c.loop-k.k c.loop-k.top c.loop-k-test.true c.loop-k.invariant.2 c.child_in_force.result c.walk.new.area c.walk.new.top (length c.loop-k.deeper) deep long' is-forced c.end-child.result c.end-child.ensures.said c.loop-k.invariant.0 a in
-    (a.within, a.blank, inside)
+    record { taken = mine_positions i _ _ sp.value sp.front_len; few = mine_few i _ _ sp.value sp.front_len }
 
-pub leave-requires : goal.leave-requires
-leave-requires g t c =
-    let long : length c.enter.new.area ≡ length c.args.area.now = omega arith in
-    let lent-long : length c.enter.new.work ≡ length c.args.work.now = omega arith in
+pub leave-requires-clause-lying : goal.leave-requires-clause-lying
+leave-requires-clause-lying g t c =
+    let i = entered g t (goal.at.leave-requires-clause-lying g t c).In_ok-kids in
     let sp = c.split_at_mut-mine.ensures in
-    let mine = c.split_at_mut-mine.result.0.now in
-    let deeper = c.split_at_mut-mine.result.1.now in
-    record { tape = c.requires.tape; schema = c.requires.schema; lying = lies c.args.frame.settings (g.X.Leaf.meaning c.args.custom.now) (view_of c.args.frame.tape) (records_of c.args.frame.schema) (names_of c.args.frame.schema) c.args.node c.args.in_force c.args.rows.now c.args.area.now c.args.work.now c.args.top.now c.requires.ready c.enter.new.area c.enter.new.work c.in_ok-kids.field-0 c.in_ok-kids.ensures long lent-long mine deeper sp.value sp.front_len c.loop-k.area c.loop-k.child c.loop-k.k c.loop-k.top c.loop-k-test.false c.loop-k.invariant.2 }
+    lies i _ _ sp.value sp.front_len
 
 pub returns : goal.returns
 returns g t c =
-    let long : length c.enter.new.area ≡ length c.args.area.now = omega arith in
-    let lent-long : length c.enter.new.work ≡ length c.args.work.now = omega arith in
+    let i = entered g t (goal.at.returns g t c).In_ok-kids in
     let sp = c.split_at_mut-mine.ensures in
-    let mine = c.split_at_mut-mine.result.0.now in
-    let deeper = c.split_at_mut-mine.result.1.now in
-    let back : length deeper + c.in_ok-kids.field-0.kids * c.in_ok-kids.field-0.stride ≡ length c.args.work.now = omega (arith, sp.back_len) in
-    walked_all c.args.frame.settings (g.X.Leaf.meaning c.args.custom.now) (view_of c.args.frame.tape) (records_of c.args.frame.schema) (names_of c.args.frame.schema) c.args.node c.args.in_force c.args.rows.now c.args.area.now c.args.work.now c.args.top.now c.requires.ready c.enter.new.area c.enter.new.work c.in_ok-kids.field-0 c.in_ok-kids.ensures long lent-long mine deeper sp.value sp.front_len c.loop-k.area c.loop-k.child c.loop-k.k c.loop-k.top c.loop-k-test.false c.loop-k.invariant.2 c.leave.result c.leave.ensures c.loop-k.invariant.0 c.loop-k.invariant.1 back
+    walked_all i _ _ sp.value sp.front_len _ _ c.loop-child.area c.loop-child.top c.loop-child.invariant.7 c.in-None.ensures.steps.0 c.leave.result c.leave.ensures c.loop-child.invariant.5 c.loop-child.invariant.6

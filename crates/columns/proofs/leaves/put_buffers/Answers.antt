@@ -2,7 +2,7 @@ use Rattle.std.proofs.Common.{◌≡◌, ℕ, ◌+◌, ◌-◌, ◌/◌, ◌≤�
 use lib.ListN.{length-map, length-replicate}
 use Rattle.octets.specs.Numbers.{padded}
 use Rattle.octets.proofs.Pieces.{length-pad}
-use Rattle.tape.specs.Opens.{view_of}
+use Rattle.tape.specs.Opened.{view_of}
 use Rattle.batch.specs.Batch.{leaf_column}
 use Rattle.columns.specs.Plans.{bytes_of}
 use Rattle.columns.specs.Leaves.{cells, cell_at}
@@ -25,13 +25,11 @@ slice_bounds-put_validity-end g c =
 pub put_validity-requires : goal.put_validity-requires
 put_validity-requires g c =
     let m = g.L.Leaf.meaning c.args.leaf.now in
-    let t = view_of c.args.tape in
-    let os = cells m t c.args.rows.now in
-    let many = length-map c.args.rows.now (cell_at m t) in
+    let t = view_of c.args.rows.tape in
+    let os = cells m t c.args.rows.positions.now in
+    let many = length-map c.args.rows.positions.now (cell_at m t) in
     record {
-      opened = c.requires.opened;
-      positions = c.requires.positions;
-      whole = λ some. valid_whole m.layout g.O.OffsetSize.width os _ c.requires.planned.validity some ∙ ap (λ (n : ℕ). (n + 7) / 8) many;
+      whole = λ some. valid_whole m.layout g.O.OffsetSize.WIDTH os _ c.requires.planned.validity some ∙ ap (λ (n : ℕ). (n + 7) / 8) many;
       blank = blank_front c.args.out.now (bytes_of c.args.plan) _ _ c.requires.blank (omega (arith, c.round_up-place.ensures)) (sym c.round_up-place.ensures);
     }
 
@@ -55,8 +53,6 @@ put_values-requires g c =
     let x : length c.put_validity.new.out ≡ place = c.put_validity.auto.out ∙ ap length front ∙ length-replicate {A = ℕ} place 0 in
     let back = blank_back c.put_validity.new.out c.args.out.now place (bytes_of plan) (padded plan.offsets + padded plan.data_size) x c.requires.blank (omega (arith, c.round_up-place.ensures)) in
     record {
-      opened = c.requires.opened;
-      positions = c.requires.positions;
       few = omega (arith, ap length back ∙ length-replicate {A = ℕ} (padded plan.offsets + padded plan.data_size) 0, long, c.requires.few);
       fits = c.requires.fits;
       offsets = c.round_up-offsets.ensures ∙ ap padded c.requires.planned.offsets;
@@ -66,8 +62,8 @@ put_values-requires g c =
 pub returns : goal.returns
 returns g c =
     let m = g.L.Leaf.meaning c.args.leaf.now in
-    let os = cells m (view_of c.args.tape) c.args.rows.now in
-    let w = g.O.OffsetSize.width in
+    let os = cells m (view_of c.args.rows.tape) c.args.rows.positions.now in
+    let w = g.O.OffsetSize.WIDTH in
     let plan = c.args.plan in
     let place = c.round_up-place.result in
     let long = ap length c.requires.blank ∙ length-replicate {A = ℕ} (bytes_of plan) 0 in

@@ -7,4 +7,4 @@ use Rattle.columns.proofs.plan.put_buffer.Goals as goal
 pub returns : goal.returns
 returns c =
     let lies : c.if-size-eq0.lies ≡ lying_at c.args.place c.args.size = grind (arith, nat_tests) in
-    two_words c.args.area.now _ _ c.args.at _ _ c.args.size c.requires.room lies c.put_u32.ensures c.put_u32-2.ensures
+    two_words c.args.area.now _ _ c.args.at _ _ c.args.size c.requires.room lies c.write_at.ensures c.write_at-2.ensures

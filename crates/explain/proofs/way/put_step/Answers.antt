@@ -1,21 +1,12 @@
-use Rattle.std.proofs.Common.{◌≡◌, true, false, cond, [], sym, subst, arith}
-use Rattle.std.proofs.lemmas.Bool.Decides.{nat_tests}
-use Rattle.schema.specs.Tree.{field_of}
-use Rattle.explain.specs.Puts.{Puts}
-use Rattle.explain.specs.Way.{is_struct, prefix}
-use Rattle.explain.proofs.Joins.{puts_none, puts_join}
+use Rattle.std.proofs.Common.{ap, ◌∙◌}
+use Rattle.explain.specs.Way.{is_struct, step_into, prefix}
+use Rattle.explain.proofs.Joins.{puts_none, puts_join, puts_as}
 use Rattle.explain.proofs.way.put_step.Goals as goal
 
-pub returns-then-letter-ne83 : goal.returns-then-letter-ne83
-returns-then-letter-ne83 c t d h k =
-    let e = c.letter.ensures.node t h in
-    let f : is_struct t ≡ false = grind (arith, nat_tests) in
-    subst (λ b. Puts c.args.at (cond b (prefix (field_of d).name) []) c.args.out.now c.args.out.now c.args.at) (sym f) (puts_none c.args.at c.args.out.now (omega arith) (omega arith))
+pub returns-then-is_struct : goal.returns-then-is_struct
+returns-then-is_struct c t d h k =
+    puts_as (ap prefix (c.name.ensures.node d k) ∙ ap (λ b. step_into b d) (c.if-is_struct.ensures ∙ ap is_struct (c.kind.ensures t h)))
+    (puts_join c.put.ensures (puts_join c.put-then-is_struct.ensures c.put-then-is_struct-2.ensures))
 
-pub returns : goal.returns
-returns c t d h k =
-    let e = c.letter.ensures.node t h in
-    let f : is_struct t ≡ true = grind (arith, nat_tests) in
-    let p = puts_join c.put-to.ensures (puts_join c.put-to-2.ensures c.put.ensures) in
-    subst (λ b. Puts c.args.at (cond b (prefix (field_of d).name) []) c.args.out.now c.put.new.out c.put.result) (sym f)
-    (subst (λ name. Puts c.args.at (prefix name) c.args.out.now c.put.new.out c.put.result) (c.name.ensures.node d k) p)
+pub returns-else-is_struct : goal.returns-else-is_struct
+returns-else-is_struct c t d h k = puts_as (ap (λ b. step_into b d) (c.if-is_struct.ensures ∙ ap is_struct (c.kind.ensures t h))) (puts_none c.args.w.now)

@@ -1,16 +1,14 @@
-use Rattle.std.proofs.Common.{◌-◌, ◌≤◌}
-use Rattle.schema.specs.Opened.{TreeOf, NodeOf}
+use Rattle.std.proofs.Common.{◌-◌, ◌<◌}
+use Rattle.schema.specs.Opened.{TreeOf, NodeOf, size_of}
 use Rattle.schema.specs.Tree.{Node}
-use Rattle.explain.specs.Puts.{most}
-use Rattle.explain.specs.Toward.{Holds}
 use Rattle.explain.specs.Way.{way_to}
 use Rattle.explain.proofs.Joins.{Leads}
 use Rattle.explain.proofs.way.put_way.Given as goal
 
-abbrev pub invariant-loop-parent : goal.invariant-loop-parent
-invariant-loop-parent l =
-    Holds l.schema l.parent l.node × (l.to ≤ most)
-    × ((root : Node) → TreeOf l.schema root → (t : Node) × NodeOf l.schema l.parent t × Leads l.initial.to (way_to l.node root) l.initial.out l.to (way_to l.node t) l.out)
+abbrev pub invariant-loop-child : goal.invariant-loop-child
+invariant-loop-child l =
+    (l.parent < size_of l.schema)
+    × ((root : Node) → TreeOf l.schema root → (t : Node) × NodeOf l.schema l.parent t × Leads (way_to l.node root) l.initial.w (way_to l.node t) l.w)
 
-abbrev pub decreases-loop-parent : goal.decreases-loop-parent
-decreases-loop-parent l = l.node - l.parent
+abbrev pub decreases-loop-child : goal.decreases-loop-child
+decreases-loop-child l = size_of l.schema - l.parent

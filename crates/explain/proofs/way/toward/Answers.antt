@@ -1,38 +1,28 @@
-use Rattle.std.proofs.Common.{sym, subst, arith}
-use Rattle.schema.specs.Opened.{records_of, names_of}
-use Rattle.explain.proofs.Ways.{Left, left-all, front, front_of, front_within, front_forward, left_more, way_into}
+use Rattle.std.proofs.Common.{arith, ap, ◌∙◌}
+use Rattle.std.proofs.lemmas.Bool.Decides.{nat_tests}
+use Rattle.schema.specs.Children.{rest}
+use Rattle.explain.proofs.Ways.{left-all, left_none, left_more, front, front_of, step_to}
 use Rattle.explain.proofs.way.toward.Goals as goal
 
-pub loop-schema-init : goal.loop-schema-init
-loop-schema-init c = (omega arith, omega (arith, c.requires.below), λ t h. left-all h c.requires.below c.requires.holding.before)
+pub loop-child-init : goal.loop-child-init
+loop-child-init c = (tt, tt, λ t h. left-all c.args.node h (ap rest c.into_iter-child-iterator.ensures.into_iter_gives ∙ c.children-child-items.ensures.node t h))
 
 pub end-requires : goal.end-requires
-end-requires c = front_within (front_of c.args.schema c.args.parent c.requires.opened c.requires.holding.within c.loop-schema.invariant.1 c.loop-schema.invariant.2)
+end-requires c = (front_of c.args.schema c.args.parent c.requires c.in-Some.ensures.steps c.loop-child.invariant.2).within
 
-pub end-child-requires : goal.end-child-requires
-end-child-requires c = front_within (front_of c.args.schema c.args.parent c.requires.opened c.requires.holding.within c.loop-schema.invariant.1 c.loop-schema.invariant.2)
+pub returns-then-contains : goal.returns-then-contains
+returns-then-contains c t h =
+    let e = c.end.ensures.said in
+    step_to c.args.schema (front c.in-Some.ensures.steps (c.loop-child.invariant.2 t h)) c.if-contains.true (c.contains.ensures.value ∙ grind (arith, nat_tests))
 
-pub loop-schema-smaller : goal.loop-schema-smaller
-loop-schema-smaller c =
-    let f = front_of c.args.schema c.args.parent c.requires.opened c.requires.holding.within c.loop-schema.invariant.1 c.loop-schema.invariant.2 in
-    omega (arith, front_forward f, c.end.ensures.said, c.end-child.ensures.said, c.loop-schema-test.true)
-
-pub loop-schema-preserved : goal.loop-schema-preserved
-loop-schema-preserved c =
-    let f = front_of c.args.schema c.args.parent c.requires.opened c.requires.holding.within c.loop-schema.invariant.1 c.loop-schema.invariant.2 in
-    let s = c.end-child.ensures.said in (
-      omega (arith, front_forward f, c.loop-schema.invariant.0),
-      omega (arith, c.end.ensures.said, c.loop-schema-test.true),
-      (λ t h. subst (λ k. Left (records_of c.args.schema) (names_of c.args.schema) c.args.node t k) (sym s) (left_more (front c.loop-schema.invariant.1 (c.loop-schema.invariant.2 t h)) (omega (arith, c.end.ensures.said, c.loop-schema-test.true)))),
-    )
+pub loop-child-preserved : goal.loop-child-preserved
+loop-child-preserved c = (
+  tt,
+  tt,
+  λ t h.
+      let e = c.end.ensures.said in
+      left_more (front c.in-Some.ensures.steps (c.loop-child.invariant.2 t h)) c.if-contains.false (c.contains.ensures.value ∙ grind (arith, nat_tests)),
+)
 
 pub returns : goal.returns
-returns c =
-    let f = front_of c.args.schema c.args.parent c.requires.opened c.requires.holding.within c.loop-schema.invariant.1 c.loop-schema.invariant.2 in
-    record {
-      below = c.loop-schema.invariant.0;
-      holding = record { within = front_within f; from = c.loop-schema.invariant.1; before = omega (arith, c.end.ensures.said, c.loop-schema-test.false) };
-      ways = λ t h.
-          let g = front c.loop-schema.invariant.1 (c.loop-schema.invariant.2 t h) in
-          (g.tree, g.held, way_into g c.loop-schema.invariant.1 (omega (arith, c.end.ensures.said, c.loop-schema-test.false)));
-    }
+returns c t h = left_none c.in-None.ensures.steps.0 (c.loop-child.invariant.2 t h)

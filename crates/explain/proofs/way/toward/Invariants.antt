@@ -1,13 +1,11 @@
-use Rattle.std.proofs.Common.{◌-◌, ◌<◌, ◌≤◌}
+use Rattle.schema.specs.Children.{rest}
 use Rattle.schema.specs.Opened.{NodeOf, records_of, names_of}
 use Rattle.schema.specs.Tree.{Node}
 use Rattle.explain.proofs.Ways.{Left}
 use Rattle.explain.proofs.way.toward.Given as goal
 
-abbrev pub invariant-loop-schema : goal.invariant-loop-schema
-invariant-loop-schema l =
-    (l.parent < l.child) × (l.child ≤ l.node)
-    × ((t : Node) → NodeOf l.schema l.parent t → Left (records_of l.schema) (names_of l.schema) l.node t l.child)
-
-abbrev pub decreases-loop-schema : goal.decreases-loop-schema
-decreases-loop-schema l = l.node - l.child
+abbrev pub invariant-loop-child : goal.invariant-loop-child
+invariant-loop-child l =
+    (goal.iterator-loop-child).can_next l.child-iterator
+    × (goal.iterator-loop-child).is_finite l.child-iterator
+    × ((t : Node) → NodeOf l.schema l.parent t → Left (records_of l.schema) (names_of l.schema) l.parent l.node t (rest l.child-iterator))

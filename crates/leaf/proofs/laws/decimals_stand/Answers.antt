@@ -1,5 +1,7 @@
-use Rattle.leaf.proofs.Fitted.{decimals}
+use Rattle.std.proofs.Common.{rules}
+use Rattle.std.specs.Fmt.{digits}
 use Rattle.leaf.proofs.laws.decimals_stand.Goals as goal
 
 pub returns : goal.returns
-returns c = decimals
+unfolding digits
+returns c = search rules

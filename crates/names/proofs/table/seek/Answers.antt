@@ -1,28 +1,26 @@
-use Rattle.std.proofs.Common.{◌≡◌, ◌+◌, ◌%◌, length, refl, inl, inr, arith, below_more}
-use Rattle.std.proofs.lemmas.Bool.{false≢true}
+use Rattle.std.proofs.Common.{◌+◌, ◌%◌, refl, arith, rules}
+use borrow.Author.Tests.{tests}
+use Rattle.std.proofs.lemmas.Iterator.{YieldsList-from_map, YieldsList-from_range}
+use Rattle.std.proofs.lemmas.Iterator.Consumers.{YieldsList-at}
 use Rattle.names.specs.Scans.{scan_names}
-use Rattle.names.specs.Slots.{Other}
-use Rattle.names.proofs.Seats.{some_empty, sought_from}
+use Rattle.names.proofs.Fields.{names_few}
+use Rattle.names.proofs.Seats.{look_ends}
 use Rattle.names.proofs.table.seek.Goals as goal
-use Rattle.names.proofs.table.seek.Goals.{then-held-eq0-via-then-held-eq0, then-held-eq0-via-else-held-eq0+then-has}
 
-pub unreachable-requires : goal.unreachable-requires
-unreachable-requires c =
+pub unwrap-requires : goal.unwrap-requires
+unwrap-requires c =
     let t = c.told-slots in
-    let l : length c.args.slots.now ≡ 128 = omega arith in
-    some_empty c.args.slots.now c.hash-first.result l c.requires.room (λ j h. (c.loop-step.invariant j (omega arith)).full)
+    let s = c.args.scan.now in
+    (look_ends (scan_names s) c.args.slots.now c.args.name.now _ _ c.find.result c.hash-first.ensures.value (omega arith) (omega (arith, names_few s, c.requires.room)) c.find.ensures.ran
+    (YieldsList-from_map _ (λ s. (c.hash-first.result + s) % 128) (YieldsList-at c.map.ensures.source (YieldsList-from_range 0 128 128 refl refl)) c.map.ensures.closure (λ x r q k. search (rules, tests)))
+    (λ x q k. search (rules, tests))
+    (λ x q k. search (rules, tests))).some
 
-pub returns-then-held-eq0 : goal.returns-then-held-eq0
-returns-then-held-eq0 c = record {
-  below = omega arith;
-  sought = sought_from c.loop-step.step c.hash-first.ensures.value c.loop-step.invariant
-      (elim c.then-held-eq0.branch [
-        | then-held-eq0-via-then-held-eq0 w ↦ inl w.if-held-eq0.true
-        | then-held-eq0-via-else-held-eq0+then-has w ↦ inr (w.if-has.ensures.0 refl)
-      ]);
-}
-
-pub loop-step-preserved : goal.loop-step-preserved
-loop-step-preserved c =
-    below_more (λ j. Other (scan_names c.args.scan.now) c.args.slots.now c.args.name.now ((c.hash-first.result + j) % 128)) c.loop-step.step c.loop-step.invariant
-    (record { full = omega arith; apart = λ e. false≢true (c.if-has.ensures.1 e) })
+pub returns-clause-sought : goal.returns-clause-sought
+returns-clause-sought c =
+    let t = c.told-slots in
+    let s = c.args.scan.now in
+    (look_ends (scan_names s) c.args.slots.now c.args.name.now _ _ c.find.result c.hash-first.ensures.value (omega arith) (omega (arith, names_few s, c.requires.room)) c.find.ensures.ran
+    (YieldsList-from_map _ (λ s. (c.hash-first.result + s) % 128) (YieldsList-at c.map.ensures.source (YieldsList-from_range 0 128 128 refl refl)) c.map.ensures.closure (λ x r q k. search (rules, tests)))
+    (λ x q k. search (rules, tests))
+    (λ x q k. search (rules, tests))).sought c.unwrap.result c.unwrap.ensures

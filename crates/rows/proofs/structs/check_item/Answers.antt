@@ -1,5 +1,5 @@
 use Rattle.std.proofs.Common.{ℕ, length, replicate, sym, ap, ◌∙◌}
-use Rattle.tape.specs.Opens.{view_of}
+use Rattle.tape.specs.Opened.{view_of}
 use Rattle.tape.specs.View.{entries}
 use Rattle.rows.specs.Kinds.{numbered}
 use Rattle.rows.proofs.Placing.{accepts, placed_lax, item-placed}
@@ -13,7 +13,7 @@ returns-then-reading-2 g c =
 pub returns : goal.returns
 returns g c =
     let r = c.args.reading in
-    let t = view_of r.tape in
+    let t = view_of r.rows.tape in
     let ns = g.N.NameIndex.names c.args.index.now in
     placed_lax r.settings t (numbered r.node) ns c.if-reading-2.false (entries t c.args.p) (replicate {A = ℕ} (length ns) 0)
     ∙ ap accepts (sym (item-placed r ns c.args.p c.if-reading.false))

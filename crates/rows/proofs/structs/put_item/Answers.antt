@@ -1,10 +1,11 @@
-use Rattle.std.proofs.Common.{◌≡◌, ℕ, true, replicate, sym, ap, ◌∙◌, subst, arith}
+use Rattle.std.proofs.Common.{◌≡◌, ℕ, true, cond, replicate, sym, ap, ◌∙◌, subst, arith}
 use Rattle.slip.specs.Slips.{is_got}
-use Rattle.tape.specs.Opens.{view_of}
+use Rattle.tape.specs.Layout.{the}
+use Rattle.tape.specs.Opened.{view_of}
 use Rattle.tape.specs.View.{is_at, entries}
 use Rattle.batch.specs.Rows.{placed}
 use Rattle.rows.specs.Filling.{Spread}
-use Rattle.rows.specs.Kinds.{numbered, bracket}
+use Rattle.rows.specs.Kinds.{numbered}
 use Rattle.rows.specs.Structs.{column}
 use Rattle.rows.proofs.Placing.{item-placed, item_count, item-entries}
 use Rattle.rows.proofs.structs.put_item.Goals as goal
@@ -14,9 +15,8 @@ put_entries-requires g c =
     let r = c.args.reading in
     let ns = g.N.NameIndex.names c.args.index.now in
     record {
-      opened = c.requires.opened;
       position = c.requires.position;
-      list = subst (λ b. is_at (view_of r.tape) (bracket b) c.args.p ≡ true) c.if-reading.true c.requires.begun;
+      list = subst (λ b. is_at (view_of r.rows.tape) (cond b (the "[") (the "{")) c.args.p ≡ true) c.if-reading.true c.requires.begun;
       room = λ j h. c.requires.room j (omega (arith, c.requires.tied.count, item_count r ns c.args.p c.if-reading.true c.requires.accepted));
       apart = c.requires.apart;
     }
@@ -24,14 +24,12 @@ put_entries-requires g c =
 pub put_values-requires : goal.put_values-requires
 put_values-requires g c =
     let r = c.args.reading in
-    let t = view_of r.tape in
+    let t = view_of r.rows.tape in
     let ns = g.N.NameIndex.names c.args.index.now in
     record {
-      ready = c.requires.tied.known;
       fields = c.requires.tied.count;
-      opened = c.requires.opened;
       position = c.requires.position;
-      object = subst (λ b. is_at t (bracket b) c.args.p ≡ true) c.if-reading.false c.requires.begun;
+      object = subst (λ b. is_at t (cond b (the "[") (the "{")) c.args.p ≡ true) c.if-reading.false c.requires.begun;
       accepted =
           subst (λ m. is_got (placed r.settings t (numbered r.node) ns (entries t c.args.p) (replicate {A = ℕ} m 0)) ≡ true) (sym c.requires.tied.count)
           (ap is_got (sym (item-placed r ns c.args.p c.if-reading.false)) ∙ c.requires.accepted);
@@ -47,7 +45,7 @@ returns-then-reading g c =
 pub returns-else-reading : goal.returns-else-reading
 returns-else-reading g c =
     let r = c.args.reading in
-    let t = view_of r.tape in
+    let t = view_of r.rows.tape in
     let ns = g.N.NameIndex.names c.args.index.now in
     let own = column c.put_values.new.work c.args.place c.args.step c.args.fields in
     λ item e.

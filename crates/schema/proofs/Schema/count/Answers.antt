@@ -1,6 +1,6 @@
-use Rattle.std.proofs.Common.{◌∙◌, arith}
+use Rattle.std.proofs.Common.{◌∙◌}
 use Rattle.schema.proofs.Nodes.{held_written}
 use Rattle.schema.proofs.Schema.count.Goals as goal
 
-pub returns : goal.returns
-returns c = record { small = omega arith; said = c.u16_at.ensures; node = λ t h. c.u16_at.ensures ∙ (held_written h).count }
+pub returns-clause-node : goal.returns-clause-node
+returns-clause-node c = λ t h. c.count.ensures.said ∙ (held_written h).count

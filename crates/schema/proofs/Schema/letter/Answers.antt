@@ -1,6 +1,6 @@
-use Rattle.std.proofs.Common.{refl}
+use Rattle.std.proofs.Common.{◌∙◌}
 use Rattle.schema.proofs.Nodes.{held_written}
 use Rattle.schema.proofs.Schema.letter.Goals as goal
 
-pub returns : goal.returns
-returns c = record { said = refl; node = λ t h. (held_written h).letter }
+pub returns-clause-node : goal.returns-clause-node
+returns-clause-node c = λ t h. c.letter.ensures ∙ (held_written h).letter

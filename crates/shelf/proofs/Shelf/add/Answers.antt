@@ -1,90 +1,72 @@
-use Rattle.std.proofs.Common.{ℕ, ◌+◌, ◌^◌, ◌≤◌, length, Err, sym, refl, ap, ◌∙◌, arith, rules}
+use Rattle.std.proofs.Common.{ℕ, ◌-◌, length, Err, sym, ap, ◌∙◌, subst, arith, rules}
+use borrow.Rule.Slice.PartMut.{put_mid}
 use Rattle.std.proofs.lemmas.Result.{err_from_is_err_and}
-use Rattle.slip.specs.Slips.{answer_of}
-use Rattle.tape.specs.Opens.{view_of}
-use Rattle.shelf.proofs.Holding.{used-fits}
+use Rattle.slip.specs.Slips.{answer_of, got}
+use Rattle.tape.specs.Opened.{view_of}
+use Rattle.laws.specs.Calls.{Shelve, after}
+use Rattle.shelf.specs.Standing.{Holds, Stands}
+use Rattle.shelf.specs.Shelves.{setup_in}
 use Rattle.shelf.proofs.Positions.{none_bad}
-use Rattle.shelf.proofs.Adding.{few, short, records_fit, area_size, area_zero, size_fits, adds_none, adds}
+use Rattle.shelf.proofs.Adding.{adds_none, adds}
+use Rattle.shelf.proofs.Shelving.{may_write, end_small, stands_after_none, stands_after}
 use Rattle.shelf.proofs.Shelf.add.Goals as goal
 
-pub slice_bounds-write-count : goal.slice_bounds-write-count
-slice_bounds-write-count g c = omega (arith, c.start-from.ensures, used-fits c.requires.standing.3)
-
-pub slice_bounds-write-start : goal.slice_bounds-write-start
-slice_bounds-write-start g c = omega (arith, c.start-from.ensures, used-fits c.requires.standing.3)
+pub invariant_of-rows : goal.invariant_of-rows
+invariant_of-rows g c =
+    let t = view_of c.args.tape in
+    let fine = sym c.in_ok-check_positions.ensures in
+    let w = may_write t c.args.positions.now c.args.self.now.standing (c.is_full.ensures.page c.if-is_full.false) fine (λ root size held h. sym (c.is_full.ensures.held root size held h) ∙ c.if-is_full.false) c.end-from.ensures.value in
+    record { taken = none_bad t 0 c.args.positions.now fine; few = omega (arith, w.0) }
 
 pub write-requires : goal.write-requires
 write-requires g c =
-    let s = c.requires.standing in
-    let h = s.3 in
     let t = view_of c.args.tape in
-    let ps = c.args.positions.now in
-    let lent = length c.args.work.now in
     let fine = sym c.in_ok-check_positions.ensures in
-    let space = sym (c.is_full.ensures s.0 s.1 s.2 h) ∙ c.if-is_full.false in
-    let size = area_size h t ps lent fine space c.start-from.result c.start-from.ensures in
-    record {
-      tape = c.requires.tape;
-      schema = (s.0, h.tree);
-      positions = none_bad t 0 ps fine;
-      few = few h t ps lent fine space;
-      lent = short h t ps lent fine space;
-      small = omega (arith, size, h.small);
-      records = omega (arith, size, records_fit h t ps lent fine space, h.tree.all);
-      free = area_zero h t ps lent fine space c.start-from.result c.start-from.ensures;
-    }
+    let w = may_write t c.args.positions.now c.args.self.now.standing (c.is_full.ensures.page c.if-is_full.false) fine (λ root size held h. sym (c.is_full.ensures.held root size held h) ∙ c.if-is_full.false) c.end-from.ensures.value in
+    record { lent = w.1; small = w.2; records = w.3; free = w.4 }
 
-pub returns-in_err-size : goal.returns-in_err-size
-returns-in_err-size g c =
-    let t = view_of c.args.tape in
-    let ps = c.args.positions.now in
-    let lent = length c.args.work.now in
-    let fine = sym c.in_ok-check_positions.ensures in
+pub invariant_of-self : goal.invariant_of-self
+invariant_of-self g c = record {
+  standing = stands_after_none _ _ c.args.self.now.standing (c.is_full.ensures.page c.if-is_full.false) (sym c.in_ok-check_positions.ensures) (λ root size held h. sym (c.is_full.ensures.held root size held h) ∙ c.if-is_full.false) c.end-from.ensures.value c.in_err-size.ensures;
+}
+
+pub returns-in_err-size-clause-does : goal.returns-in_err-size-clause-does
+returns-in_err-size-clause-does g c = λ root size held h.
     let p = err_from_is_err_and c.from_residual-in_err-size.result c.from_residual-in_err-size.ensures.1 in
-    record {
-      does = λ root size held h.
-          let space = sym (c.is_full.ensures root size held h) ∙ c.if-is_full.false in
-          let d = adds_none h t ps lent fine space c.start-from.result c.start-from.ensures c.write.new.area c.in_err-size.field-0.0 (c.in_err-size.ensures root size h.tree) in
-          record { answered = ap (answer_of {A = ℕ}) (p.1 ∙ ap Err p.2) ∙ d.answered; holds = d.holds };
-      page = refl;
-      schema = refl;
-      settings = refl;
-      custom = refl;
-    }
+    let d = adds_none h (view_of c.args.tape) c.args.positions.now (length c.args.work.now) (sym c.in_ok-check_positions.ensures) (sym (c.is_full.ensures.held root size held h) ∙ c.if-is_full.false)
+    c.end-from.result c.end-from.ensures.value c.write.new.area c.in_err-size.field-0.0 (c.in_err-size.ensures root size h.tree) in
+    record { answered = ap (answer_of {A = ℕ}) (p.1 ∙ ap Err p.2) ∙ d.answered; holds = d.holds }
 
-pub overflow_add-self : goal.overflow_add-self
-overflow_add-self g c =
-    let s = c.requires.standing in
-    let h = s.3 in
-    let fine = sym c.in_ok-check_positions.ensures in
-    let space = sym (c.is_full.ensures s.0 s.1 s.2 h) ∙ c.if-is_full.false in
-    let w = c.in_ok-size.ensures s.0 s.1 h.tree in
-    let n : c.start-from.result + c.in_ok-size.size ≤ 2 ^ 24 = omega (arith, h.small, size_fits h (view_of c.args.tape) c.args.positions.now (length c.args.work.now) fine space c.start-from.result c.start-from.ensures c.write.new.area c.in_ok-size.size w c.write.auto.area) in
+pub overflow_add-from : goal.overflow_add-from
+overflow_add-from g c =
+    let n = end_small _ _ c.args.self.now.standing (c.is_full.ensures.page c.if-is_full.false) (sym c.in_ok-check_positions.ensures) (λ root size held h. sym (c.is_full.ensures.held root size held h) ∙ c.if-is_full.false) c.end-from.ensures.value c.in_ok-size.ensures c.write.auto.area in
+    let few = n.0 in
     search rules
 
-pub overflow_cast-self : goal.overflow_cast-self
-overflow_cast-self g c =
-    let s = c.requires.standing in
-    let h = s.3 in
-    let fine = sym c.in_ok-check_positions.ensures in
-    let space = sym (c.is_full.ensures s.0 s.1 s.2 h) ∙ c.if-is_full.false in
-    let w = c.in_ok-size.ensures s.0 s.1 h.tree in
-    let n : c.start-from.result + c.in_ok-size.size ≤ 2 ^ 24 = omega (arith, h.small, size_fits h (view_of c.args.tape) c.args.positions.now (length c.args.work.now) fine space c.start-from.result c.start-from.ensures c.write.new.area c.in_ok-size.size w c.write.auto.area) in
+pub overflow_cast-from : goal.overflow_cast-from
+overflow_cast-from g c =
+    let n = end_small _ _ c.args.self.now.standing (c.is_full.ensures.page c.if-is_full.false) (sym c.in_ok-check_positions.ensures) (λ root size held h. sym (c.is_full.ensures.held root size held h) ∙ c.if-is_full.false) c.end-from.ensures.value c.in_ok-size.ensures c.write.auto.area in
+    let few = n.0 in
     search rules
 
-pub returns : goal.returns
-returns g c =
-    let t = view_of c.args.tape in
-    let ps = c.args.positions.now in
-    let lent = length c.args.work.now in
-    let fine = sym c.in_ok-check_positions.ensures in
+pub push-requires : goal.push-requires
+push-requires g c =
+    let n = end_small _ _ c.args.self.now.standing (c.is_full.ensures.page c.if-is_full.false) (sym c.in_ok-check_positions.ensures) (λ root size held h. sym (c.is_full.ensures.held root size held h) ∙ c.if-is_full.false) c.end-from.ensures.value c.in_ok-size.ensures c.write.auto.area in
+    (omega arith, n.1)
+
+pub invariant_of-self-2 : goal.invariant_of-self-2
+invariant_of-self-2 g c = record {
+  standing = subst (λ es. ∥ Stands c.args.self.now.settings (g.X.Leaf.meaning c.args.self.now.custom.now) c.args.self.now.schema (put_mid c.end-from.result (length c.args.self.now.page.now - c.end-from.result) c.args.self.now.page.now c.write.new.area) es ∥₁) (sym c.push.ensures.items)
+      (stands_after _ _ c.args.self.now.standing (c.is_full.ensures.page c.if-is_full.false) (sym c.in_ok-check_positions.ensures) (λ root size held h. sym (c.is_full.ensures.held root size held h) ∙ c.if-is_full.false) c.end-from.ensures.value c.in_ok-size.ensures c.write.auto.area);
+}
+
+pub returns-clause-does : goal.returns-clause-does
+returns-clause-does g c = λ root size held h.
+    let st = setup_in c.args.self.now root size in
+    let call = Shelve (view_of c.args.tape) c.args.positions.now (length c.args.work.now) in
+    let d = adds h (view_of c.args.tape) c.args.positions.now (length c.args.work.now) (sym c.in_ok-check_positions.ensures) (sym (c.is_full.ensures.held root size held h) ∙ c.if-is_full.false)
+    c.end-from.result c.end-from.ensures.value c.write.new.area c.in_ok-size.size (c.in_ok-size.ensures root size h.tree) c.write.auto.area in
     record {
-      does = λ root size held h.
-          let space = sym (c.is_full.ensures root size held h) ∙ c.if-is_full.false in
-          let w = c.in_ok-size.ensures root size h.tree in
-          adds h t ps lent fine space c.start-from.result c.start-from.ensures c.write.new.area c.in_ok-size.size w c.write.auto.area;
-      page = refl;
-      schema = refl;
-      settings = refl;
-      custom = refl;
+      answered = ap got c.len-number.ensures.value ∙ d.answered;
+      holds = subst (λ es. Holds st c.args.self.now.schema (put_mid c.end-from.result (length c.args.self.now.page.now - c.end-from.result) c.args.self.now.page.now c.write.new.area) es (after st held call)) (sym c.push.ensures.items) d.holds;
     }

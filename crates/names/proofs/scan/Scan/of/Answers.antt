@@ -1,25 +1,26 @@
-use Rattle.std.proofs.Common.{refl, arith}
-use Rattle.names.proofs.Fields.{heading_turn, heading_more, scan_made}
+use Rattle.std.proofs.Common.{length, ap, ◌∙◌, arith}
+use Rattle.schema.specs.Children.{rest}
+use Rattle.schema.proofs.Nodes.{held_at, held_children}
+use Rattle.schema.proofs.Siblings.{turn}
+use Rattle.names.proofs.Fields.{few_fields, taken_made}
 use Rattle.names.proofs.scan.Scan.of.Goals as goal
 
-pub overflow_cast-heads : goal.overflow_cast-heads
-overflow_cast-heads c = omega (arith, (heading_turn c.args.node c.requires.opened.1 c.requires.within c.requires.kind c.count-count.ensures.said c.loop-place-test.true c.loop-place.invariant).small)
+pub push-requires : goal.push-requires
+push-requires c =
+    let h = held_at c.args.schema.opened.1 c.args.node c.requires.within in
+    let e = ap rest c.into_iter-child-iterator.ensures.into_iter_gives ∙ c.children-child-items.ensures.node _ h in
+    let here = (turn (held_children h) c.into_iter-child-iterator.result e c.loop-child.yielded c.loop-child.child-iterator c.loop-child.yielded_by c.in-Some.ensures.steps).1 in
+    omega (arith, ap length c.loop-child.invariant.2, here.left, (few_fields h c.requires.kind).1)
 
-pub offset_bounds-heads-place : goal.offset_bounds-heads-place
-offset_bounds-heads-place c = omega (arith, (heading_turn c.args.node c.requires.opened.1 c.requires.within c.requires.kind c.count-count.ensures.said c.loop-place-test.true c.loop-place.invariant).below)
+pub invariant_of-result : goal.invariant_of-result
+invariant_of-result c =
+    let made = taken_made c.args.node c.args.schema.opened.1 c.requires.within c.requires.kind c.into_iter-child-iterator.result c.loop-child.yielded c.loop-child.child-iterator c.loop-child.yielded_by c.in-None.ensures.steps.0 c.loop-child.invariant.2 (λ t k. ap rest c.into_iter-child-iterator.ensures.into_iter_gives ∙ c.children-child-items.ensures.node t k) in
+    record { few = made.few; readable = rw (c.bytes.ensures.records, c.bytes.ensures.names) made.readable }
 
-pub bounds-heads-place : goal.bounds-heads-place
-bounds-heads-place c = (heading_turn c.args.node c.requires.opened.1 c.requires.within c.requires.kind c.count-count.ensures.said c.loop-place-test.true c.loop-place.invariant).below
+pub returns-clause-count : goal.returns-clause-count
+returns-clause-count c = rw (c.bytes.ensures.records, c.bytes.ensures.names)
+    (taken_made c.args.node c.args.schema.opened.1 c.requires.within c.requires.kind c.into_iter-child-iterator.result c.loop-child.yielded c.loop-child.child-iterator c.loop-child.yielded_by c.in-None.ensures.steps.0 c.loop-child.invariant.2 (λ t k. ap rest c.into_iter-child-iterator.ensures.into_iter_gives ∙ c.children-child-items.ensures.node t k)).count
 
-pub end-at-requires : goal.end-at-requires
-end-at-requires c = (heading_turn c.args.node c.requires.opened.1 c.requires.within c.requires.kind c.count-count.ensures.said c.loop-place-test.true c.loop-place.invariant).within
-
-pub loop-place-preserved : goal.loop-place-preserved
-loop-place-preserved c =
-    let t = heading_turn c.args.node c.requires.opened.1 c.requires.within c.requires.kind c.count-count.ensures.said c.loop-place-test.true c.loop-place.invariant in
-    heading_more c.loop-place-test.true t.few c.end-at.ensures.said c.loop-place.invariant
-
-pub returns : goal.returns
-returns c =
-    let done = scan_made c.args.node c.requires.opened.1 c.requires.within c.requires.kind c.count-count.ensures.said (omega arith) c.loop-place.invariant _ c.bytes.ensures.records c.bytes.ensures.names refl refl in
-    record { ready = done.ready; count = c.count-count.ensures.said; names = done.named }
+pub returns-clause-names : goal.returns-clause-names
+returns-clause-names c = rw (c.bytes.ensures.records, c.bytes.ensures.names)
+    (taken_made c.args.node c.args.schema.opened.1 c.requires.within c.requires.kind c.into_iter-child-iterator.result c.loop-child.yielded c.loop-child.child-iterator c.loop-child.yielded_by c.in-None.ensures.steps.0 c.loop-child.invariant.2 (λ t k. ap rest c.into_iter-child-iterator.ensures.into_iter_gives ∙ c.children-child-items.ensures.node t k)).named

@@ -1,7 +1,6 @@
-use Rattle.std.proofs.Common.{◌+◌}
-use Rattle.schema.specs.Opened.{records_of}
-use Rattle.names.proofs.Fields.{Heading}
+use Rattle.std.proofs.Common.{◌≡◌}
 use Rattle.names.proofs.scan.Scan.of.Given as goal
 
-abbrev pub invariant-loop-place : goal.invariant-loop-place
-invariant-loop-place l = Heading (records_of l.schema) (l.node + 1) l.count l.heads l.at l.place
+abbrev pub invariant-loop-child : goal.invariant-loop-child
+invariant-loop-child l =
+    (goal.iterator-loop-child).can_next l.child-iterator × (goal.iterator-loop-child).is_finite l.child-iterator × (l.heads.items ≡ l.yielded)

@@ -1,15 +1,18 @@
-use Rattle.std.proofs.Common.{[], ◌∷◌, ◌++◌, sym, refl, ap, ◌∙◌, arith, length-set}
-use Rattle.std.proofs.lemmas.List.{take_more_set}
-use Rattle.names.proofs.Fields.{between_next, list_made}
+use Rattle.std.proofs.Common.{[], ◌∷◌, ◌++◌, length, ap, ◌∙◌, arith}
+use Rattle.octets.proofs.Pieces.{length-between}
+use Rattle.names.proofs.Fields.{between_next, row_made}
 use Rattle.names.proofs.scan.Scan.over.Goals as goal
 
-pub loop-place-preserved : goal.loop-place-preserved
-loop-place-preserved c = (
-  length-set c.loop-place.heads c.loop-place.place c.loop-place.place ∙ c.loop-place.invariant.0,
-  take_more_set c.loop-place.heads c.loop-place.place c.loop-place.place (omega arith) ∙ ap (λ x. x ++ (c.loop-place.place ∷ [])) c.loop-place.invariant.1 ∙ sym (between_next c.loop-place.place),
-)
+pub push-requires : goal.push-requires
+push-requires c = omega (arith, ap length c.loop-head.invariant, length-between 0 c.loop-head.head)
 
-pub returns : goal.returns
-returns c =
-    let done = list_made c.requires.few c.requires.inside (omega arith) c.loop-place.invariant.0 c.loop-place.invariant.1 _ refl refl refl refl in
-    record { ready = done.ready; count = refl; names = done.named }
+pub loop-head-preserved : goal.loop-head-preserved
+loop-head-preserved c = c.push.ensures.items ∙ ap (λ x. x ++ (c.loop-head.head ∷ [])) c.loop-head.invariant ∙ between_next c.loop-head.head
+
+pub invariant_of-result : goal.invariant_of-result
+invariant_of-result c =
+    let made = row_made c.loop-head.invariant (omega arith) c.requires.few c.requires.inside in
+    record { few = made.few; readable = made.readable }
+
+pub returns-clause-count : goal.returns-clause-count
+returns-clause-count c = (row_made c.loop-head.invariant (omega arith) c.requires.few c.requires.inside).count

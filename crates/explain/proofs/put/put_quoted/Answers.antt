@@ -1,5 +1,0 @@
-use Rattle.explain.proofs.Joins.{puts_join}
-use Rattle.explain.proofs.put.put_quoted.Goals as goal
-
-pub returns : goal.returns
-returns c = puts_join c.put-to.ensures (puts_join c.put-to-2.ensures c.put.ensures)

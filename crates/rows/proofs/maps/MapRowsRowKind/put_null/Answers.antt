@@ -1,0 +1,5 @@
+use Rattle.rows.proofs.Cells.{filled_none}
+use Rattle.rows.proofs.maps.MapRowsRowKind.put_null.Goals as goal
+
+pub returns : goal.returns
+returns c = filled_none 2 c.args._stride c.args._at c.args._work.now
