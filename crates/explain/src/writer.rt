@@ -1,4 +1,5 @@
 // Text put into an area piece by piece. What has no room is counted and not written.
+// No `write!`: it promises something only where it answers `Ok`, and nothing says that it does.
 ghost use Rattle.std.specs.Prelude.{◌≡◌, ◌++◌, codes};
 ghost use Rattle.explain.specs.Puts.{Puts};
 

@@ -81,7 +81,7 @@ impl Nesting {
     }
 }
 
-// The letter and the number of an element, as they lie on the tape.
+// The letter and the number of an element, as they lie on the tape. A tuple, for they are two columns.
 fn stored(element: TapeElement) -> (char, i64) {
     match element {
         TapeElement::StartObject(end) => ('{', i64::from(end)),
