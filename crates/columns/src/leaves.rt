@@ -40,6 +40,7 @@ fn sized<O: OffsetSize>(layout: Layout, slots: usize, seen: Seen) -> Plan
 
 // Reads the rows, up to the first that is refused, and plans their column.
 fn plan_leaf<L: Leaf, O: OffsetSize>(leaf: &L, rows: Rows<'_>, node: usize) -> Result<Plan, Fault>
+    requires few { length rows.positions.now ≤ 2 ^ 24 }
     requires fits { AllFit (L.Leaf.meaning leaf.now) }
     ensures { PlannedLeaf (L.Leaf.meaning leaf.now) O.OffsetSize.WIDTH (view_of rows.entry.tape) node rows.entry.positions.now result }
 {
@@ -97,6 +98,7 @@ pub fn put_leaf<L: Leaf, O: OffsetSize>(
     area: &mut [u8],
     top: usize,
 ) -> Result<usize, Fault>
+    requires few { length rows.positions.now ≤ 2 ^ 24 }
     requires place { Place area.old node top }
     requires fits { AllFit (L.Leaf.meaning leaf.now) }
     ensures { LeafEntered (L.Leaf.meaning leaf.now) O.OffsetSize.WIDTH (view_of rows.entry.tape) node top rows.entry.positions.now area.old area.new result }

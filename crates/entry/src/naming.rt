@@ -5,6 +5,7 @@ ghost use Rattle.schema.specs.Tree.{Node, children_of, names as names_in};
 ghost use Rattle.schema.specs.Layout.{the, letter_at};
 ghost use Rattle.schema.specs.Opened.{NodeOf, records_of, names_of, size_of};
 
+use crate::StructRows;
 use names::{Index, NameIndex};
 use nodes::Frame;
 use schema::Schema;
@@ -29,6 +30,18 @@ pub trait NamingOf<'a>: Naming + Drop {
         ensures { Self.Naming.schema result ≡ schema.entry };
 }
 
+// What makes a reader of struct rows of a schema.
+pub trait StructRowsOf<'a>: StructRows + Drop {
+    fn reader_of(schema: Schema<'a>) -> Self
+        ensures { Self.StructRows.schema result ≡ schema.entry };
+}
+
+impl<'a, N: NamingOf<'a>> StructRowsOf<'a> for N {
+    fn reader_of(schema: Schema<'a>) -> N {
+        N::of(schema)
+    }
+}
+
 // Few fields are found by a scan, and more of them by a keyed table.
 impl<'a> Naming for Schema<'a> {
     type Index = Index<'a>;
@@ -46,17 +59,17 @@ impl<'a> NamingOf<'a> for Schema<'a> {
     }
 }
 
-// A frame, with the names of its schema's structs.
-pub struct Named<'a, X, N: Naming> {
+// A frame, with what reads the rows of its schema's structs.
+pub struct Named<'a, X, S: StructRows> {
     pub frame: Frame<'a, X>,
-    pub names: &'a N,
-    pub ghost same: { (records_of (N.schema names.now) ≡ records_of frame.schema) × (names_of (N.schema names.now) ≡ names_of frame.schema) },
+    pub names: &'a S,
+    pub ghost same: { (records_of (S.schema names.now) ≡ records_of frame.schema) × (names_of (S.schema names.now) ≡ names_of frame.schema) },
 }
 
-impl<X, N: Naming> Clone for Named<'_, X, N> {
+impl<X, S: StructRows> Clone for Named<'_, X, S> {
     fn clone(&self) -> Result<Self, AllocError> {
         Ok(*self)
     }
 }
 
-impl<X, N: Naming> Copy for Named<'_, X, N> {}
+impl<X, S: StructRows> Copy for Named<'_, X, S> {}

@@ -3,7 +3,8 @@ use Rattle.std.proofs.Common.{◌≡◌, ℕ, ◌+◌, ◌<◌, Bool, true, fals
 use Rattle.std.specs.Prelude.{nat_le, nat_lt}
 use Rattle.schema.specs.declared.Schema.{Schema}
 use Rattle.schema.specs.Held.{Held, HeldIn}
-use Rattle.schema.specs.Held.HeldIn.{more}
+use Rattle.schema.specs.Held.HeldIn.{nothing, more}
+use Rattle.std.proofs.lemmas.Bool.Decides.{nat_tests}
 use Rattle.schema.specs.Layout.{record_count, end_at}
 use Rattle.schema.specs.Opened.{NodeOf, records_of, names_of, size_of}
 use Rattle.schema.specs.Tree.{Node, branch, leaf, Fields, ◌⊕◌, field_of, kind_of, children_of, nodes, node_at, numbers}
@@ -82,3 +83,15 @@ module _ {rs ns ps : List ℕ} {i n child : ℕ} {t : Node} (f : Front rs ns i n
 
 pub step_to : (s : Schema) {ps : List ℕ} {i n child : ℕ} {t : Node} {b : Bool} → Front (records_of s) (names_of s) i n t child ps → b ≡ true → b ≡ (nat_le child n && nat_lt n (end_at (records_of s) child)) → Step s i t n child
 step_to s f h e = record { below = f.below; within = f.within; tree = f.tree; held = f.held; way = f.way (sym h ∙ e) }
+
+-- nothing leads to a node that stands before
+way_none : {rs ns : List ℕ} {i : ℕ} {cs : Fields} (n : ℕ) (named : Bool) → HeldIn rs ns i cs → n < i → way_in n named cs ≡ []
+way_none n named nothing h = refl
+way_none n named (more {c = c} {cs = cs} x xs) h =
+    let a = (held_written x).number in
+    let e : holds n c ≡ false = grind (arith, nat_tests) in
+    ap (λ b. cond b (step_into named c ++ way_to n c) (way_in n named cs)) e ∙ way_none n named xs (omega arith)
+
+-- no step leads from a node to itself
+pub way_here : {rs ns : List ℕ} {i : ℕ} {t : Node} → Held rs ns i t → way_to i t ≡ []
+way_here {i = i} {t} h = way_children i t ∙ way_none i (is_struct (kind_of t)) (held_children h) (omega arith)

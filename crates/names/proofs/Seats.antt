@@ -4,7 +4,7 @@ use mathlib.Core.Logic.{∥∥₁_elim}
 use native.Mathlib.Decide.{dec_lt}
 use Rattle.std.specs.Coded.{le_prop}
 use Rattle.std.proofs.Props.{props}
-use Rattle.std.specs.Option.{MatchOption, IsSome, IfSome, is_some, option_or}
+use Rattle.std.specs.Option.{MatchOption, IsSome, IsSomeAnd, IfSome, is_some, option_or}
 use Rattle.std.specs.Bool.{⊤}
 use Rattle.std.specs.Fn.{CalledAt}
 use Rattle.std.specs.Iterator.{YieldsThen}
@@ -201,6 +201,12 @@ keyed_more {all} {slots} {p} {n} {r} e k x b = go (slot_at slots r) refl
     go : (o : Option ℕ) → slot_at slots r ≡ o → Keyed all (set slots r (option_or o (Some p))) (p + 1)
     go None h = keyed_put e k x h b
     go (Some q) h = rw (← h, set-get_or slots r None) (keyed_twin e k x h)
+
+-- an answer that is made of a slot's place, and is that place
+pub answer_same : (o r : Option ℕ) (P : ℕ → ℕ → Type 0) → MatchOption o (r ≡ None) (λ x. IsSomeAnd r (P x)) → ((x y : ℕ) → P x y → y ≡ x) → r ≡ o
+answer_same None r P h e = h
+answer_same (Some x) None P h e = elim h [ ]
+answer_same (Some x) (Some y) P h e = ap Some (e x y h)
 
 -- what is known of a table's slots
 pub known_in : {all : List (List ℕ)} {slots : List (Option ℕ)} {p : ℕ} → ∥ Keyed all slots p ∥₁ → (s q : ℕ) → Holds slots s q → q < p

@@ -1,5 +1,5 @@
 // Names, tried one by one.
-ghost use Rattle.std.specs.Prelude.{◌≡◌, ℕ, ◌+◌, ◌<◌, ◌≤◌, [], map, length, Decides, All, slice_index_or};
+ghost use Rattle.std.specs.Prelude.{◌≡◌, ℕ, ◌+◌, ◌<◌, ◌≤◌, [], map, length, Decides, slice_index, slice_index_or};
 ghost use Rattle.octets.specs.Lists.{between};
 ghost use Rattle.schema.specs.Tree.{Node, children_of, names as names_in};
 ghost use Rattle.schema.specs.Layout.{the, record_count, letter_at, count_at, start_at, size_at, name_at};
@@ -7,17 +7,18 @@ ghost use Rattle.schema.specs.Opened.{NodeOf, records_of, size_of};
 ghost use Rattle.names.specs.Readable.{Readable};
 
 use crate::NameIndex;
-use arrayvec::ArrayVec;
 use schema::Schema;
 use schema::records::Records;
 
-// Up to 64 names, each by the number of its record.
-#[derive(Drop)]
+// Up to 64 names, each by the number of its record. An array with a count, and no `ArrayVec`, so that a scan is `Copy`.
+#[derive(Clone, Copy)]
 pub struct Scan<'a> {
     records: Records<'a>,
-    heads: ArrayVec<u16, 64>,
-    ghost few: { length heads.items ≤ 64 },
-    ghost readable: { All (Readable records.bytes.now records.names.now) heads.items },
+    heads: [u16; 64],
+    count: usize,
+    pub ghost few: { count ≤ 64 },
+    pub ghost long: { length heads ≡ 64 },
+    pub ghost readable: { (q : ℕ) → q < count → Readable records.bytes.now records.names.now (slice_index heads q) },
 }
 
 impl<'a> Scan<'a> {
@@ -31,13 +32,14 @@ impl<'a> Scan<'a> {
         ensures names { (t : Node) → NodeOf schema.entry node t → scan_names result ≡ names_in (children_of t) }
     {
         let (bytes, names) = schema.bytes();
-        let mut heads = ArrayVec::new();
-        for child in schema.children(node) {
-            heads.push(child as u16);
+        let mut heads = [0; 64];
+        for (place, child) in schema.children(node).enumerate() {
+            heads[place] = child as u16;
         }
         Scan {
             records: Records { bytes, names },
             heads,
+            count: schema.count(node),
         }
     }
 
@@ -48,9 +50,10 @@ impl<'a> Scan<'a> {
         ensures count { length (scan_names result) ≡ record_count records.now }
         ensures names { scan_names result ≡ map (name_at records.now names.now) (between 0 (record_count records.now)) }
     {
-        let mut heads = ArrayVec::new();
-        for head in 0..records.len() / 16 {
-            heads.push(head as u16);
+        let count = records.len() / 16;
+        let mut heads = [0; 64];
+        for place in 0..count {
+            heads[place] = place as u16;
         }
         Scan {
             records: Records {
@@ -58,6 +61,7 @@ impl<'a> Scan<'a> {
                 names,
             },
             heads,
+            count,
         }
     }
 
@@ -66,7 +70,7 @@ impl<'a> Scan<'a> {
         ensures value { result ≡ length (scan_names self.now) }
         ensures few { result ≤ 64 }
     {
-        self.heads.len()
+        self.count
     }
 
     // The name at a place.

@@ -12,7 +12,7 @@ use crate::scan::Scan;
 pub struct Table<'a> {
     pub(crate) scan: Scan<'a>,
     slots: [Option<u8>; 128],
-    ghost keyed: { ∥ Keyed (scan_names scan) slots (length (scan_names scan)) ∥₁ },
+    pub ghost keyed: { ∥ Keyed (scan_names scan) slots (length (scan_names scan)) ∥₁ },
 }
 
 // The slot that has the name, or else the first empty slot on the way.

@@ -200,13 +200,14 @@ module _ {v : Seen} {A work : List ℕ} {top : ℕ} {B lent : List ℕ} {e : Ent
         pub child_enough : e.stride ≤ length others
         child_enough = enough v e.stride others coming (b T₀ 0 T₀ h₀).kids x after (first_at T₀ 0 T₀ h₀)
 
-        pub child_ready : (forced : Bool) (qs deep' : List ℕ) → length deep' ≡ length deeper → next ≤ length area → Blank area next → length area ≡ length B
+        pub child_ready : (forced : Bool) (qs deep' : List ℕ) → length qs ≤ 2 ^ 24 → length deep' ≡ length deeper → next ≤ length area → Blank area next → length area ≡ length B
             → Ready (visited v x forced qs) deep' area next
-        child_ready forced qs deep' same within blank long' =
+        child_ready forced qs deep' few same within blank long' =
             let m = b T₀ 0 T₀ h₀ in
             let f = first_at T₀ 0 T₀ h₀ in
             record {
               formed = child_is;
+              few = few;
               lent = omega (arith, same, ap length split, length-append mine deeper, i.lent-long, i.ready.lent);
               apart = omega (arith, others_end v T₀ 0 T₀ e.stride (length B) (length deeper) e.next B others coming area next m x after f, m.above, low T₀ h₀, above);
               within = within;

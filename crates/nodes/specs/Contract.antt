@@ -74,9 +74,10 @@ module _ (v : Seen) where
   abbrev pub OfTree : ((st : Setup) (T : Node) → Type 0) → Type 0
   OfTree P = (root : Node) (size : ℕ) (T : Node) → HeldHere T → P (setup_in root size) T
 
-  -- what a walk starts from: a tree that the records hold, a work list, and an area that is blank from `top` on
+  -- what a walk starts from: a tree that the records hold, few positions, a work list, and an area that is blank from `top` on
   pub record Ready (work area : List ℕ) (top : ℕ) : Type 0 where
     pub formed : (T : Node) × HeldHere T
+    pub few : length v.positions ≤ 2 ^ 24
     pub lent : length work ≤ 2 ^ 24
     pub apart : 32 * end_at v.records v.node ≤ top
     pub within : top ≤ length area

@@ -10,6 +10,7 @@ use Rattle.schema.specs.declared.settings.Settings.{Settings}
 use Rattle.schema.proofs.Nodes.{all_formed}
 use Rattle.tape.specs.View.{TapeView}
 use Rattle.tape.specs.Opens.{Untorn}
+use Rattle.leaf.specs.Meaning.{Meaning}
 use Rattle.batch.specs.Values.{Setup, Value}
 use Rattle.batch.specs.Cells as Batch
 use Rattle.batch.specs.Cells.{cell_of, triple}
@@ -18,7 +19,7 @@ use Rattle.laws.specs.Calls.{Call, Shelve, batch, cell, answer, after, run}
 use Rattle.laws.specs.History.{FromOpened}
 use Rattle.laws.proofs.Past.{always_kept_lem, always_in_format_lem}
 use Rattle.nodes.specs.Contract.{setup_of}
-use Rattle.shelf.specs.Shelves.{HoldsIn, DoesIn, Keeps}
+use Rattle.shelf.specs.Shelves.{HoldsIn, Stands, DoesIn, Keeps}
 use Rattle.replay.specs.Replay.{said, ShelveFrom, Asks, AllAsk, replies, Makes, Replayed}
 use Rattle.shelf.specs.declared.Shelf.{Shelf}
 use Rattle.shelf.proofs.Holding.{page_size}
@@ -27,7 +28,7 @@ use Rattle.replay.specs.declared.Call.TheVariants.{Shelve as ShelveLine, Cell as
 use Rattle.replay.specs.declared.Answer.{Answer}
 
 -- a Shelve of an opened tape
-module _ {X : Type 0} {g : _} (st : Setup) (held : Held st) (shelf : Shelf X g) (v : TapeView) (ps : List ℕ) (lent : ℕ) where
+module _ {X : Type 0} (st : Setup) (held : Held st) (shelf : Shelf X) (v : TapeView) (ps : List ℕ) (lent : ℕ) where
   pub shelved : (t : TapeView) (r : Got ℕ) → Untorn t → t ≡ v → DoesIn st held shelf (Shelve t ps lent) (shelve st held t ps lent) r
       → (call : Call) × ShelveFrom v ps lent call × Makes st held shelf call (then r (λ n. got (batch n)))
   shelved t r o e d = (
@@ -95,53 +96,56 @@ module _ (st : Setup) where
   replies_more held (d ∷ cs) c = ap (λ r. answer st held d ∷ r) (replies_more (after st held d) cs c)
 
 -- what is known after i calls
-pub record Sofar {X : Type 0} {g : _} (s : Settings) (x : X) (rs ns : List ℕ) (size work : ℕ) (shelf : Shelf X g) (lines : List Line) (answers before : List (Result Answer Fault)) (i : ℕ) : Type 0 where
+pub record Sofar {X : Type 0} (m : X → Meaning) (s : Settings) (x : X) (rs ns : List ℕ) (size work : ℕ) (shelf : Shelf X) (lines : List Line) (answers before : List (Result Answer Fault)) (i : ℕ) : Type 0 where
   pub root : Node
   pub tree : Tree rs ns root
   pub calls : List Call
   pub asked : AllAsk work (take i lines) calls
-  pub answered : map said (take i answers) ≡ replies (setup_of s (g.meaning x) root size) [] calls
-  pub holds : HoldsIn (setup_of s (g.meaning x) root size) shelf (run (setup_of s (g.meaning x) root size) [] calls)
+  pub answered : map said (take i answers) ≡ replies (setup_of s (m x) root size) [] calls
+  pub holds : HoldsIn (setup_of s (m x) root size) shelf (run (setup_of s (m x) root size) [] calls)
   pub settings_are : shelf.settings ≡ s
   pub custom_is : shelf.custom.now ≡ x
   pub rest : drop i answers ≡ drop i before
 
 -- before the first call
-pub begun : {X : Type 0} {g : _} (s : Settings) (x : X) (rs ns : List ℕ) (size work : ℕ) (shelf : Shelf X g) (lines : List Line) (answers : List (Result Answer Fault)) (root : Node)
-    → Tree rs ns root → HoldsIn (setup_of s (g.meaning x) root size) shelf [] → shelf.settings ≡ s → shelf.custom.now ≡ x
-    → Sofar shelf.settings x rs ns (length shelf.page.now) work shelf lines answers answers 0
-begun {X} {g} s x rs ns size work shelf lines answers root tree h same own = record {
+pub begun : {X : Type 0} (m : X → Meaning) (s : Settings) (x : X) (rs ns : List ℕ) (size work : ℕ) (shelf : Shelf X) (lines : List Line) (answers : List (Result Answer Fault)) (root : Node)
+    → Tree rs ns root → HoldsIn (setup_of s (m x) root size) shelf [] → shelf.settings ≡ s → shelf.custom.now ≡ x
+    → Sofar m shelf.settings x rs ns (length shelf.page.now) work shelf lines answers answers 0
+begun m s x rs ns size work shelf lines answers root tree h same own = record {
   root = root;
   tree = tree;
   calls = [];
   asked = tt;
   answered = refl;
-  holds = subst (λ n. HoldsIn (setup_of shelf.settings (g.meaning x) root n) shelf []) (sym (page_size h))
-      (subst (λ t. HoldsIn (setup_of t (g.meaning x) root size) shelf []) (sym same) h);
+  holds = subst (λ n. HoldsIn (setup_of shelf.settings (m x) root n) shelf []) (sym (page_size h))
+      (subst (λ t. HoldsIn (setup_of t (m x) root size) shelf []) (sym same) h);
   settings_are = refl;
   custom_is = own;
   rest = refl;
 }
 
-module _ {X : Type 0} {g : _} {s : Settings} {x : X} {rs ns : List ℕ} {size work : ℕ} {shelf : Shelf X g} {lines : List Line} {answers before : List (Result Answer Fault)} {i : ℕ} (f : Sofar s x rs ns size work shelf lines answers before i) where
+module _ {X : Type 0} {m : X → Meaning} {s : Settings} {x : X} {rs ns : List ℕ} {size work : ℕ} {shelf : Shelf X} {lines : List Line} {answers before : List (Result Answer Fault)} {i : ℕ} (f : Sofar m s x rs ns size work shelf lines answers before i) where
   abbrev own : List (List (Value f.root))
-  own = run (setup_of s (g.meaning x) f.root size) [] f.calls
+  own = run (setup_of s (m x) f.root size) [] f.calls
 
-  pub holds-own : HoldsIn (setup_of shelf.settings (g.meaning shelf.custom.now) f.root size) shelf own
+  pub holds-own : HoldsIn (setup_of shelf.settings (m shelf.custom.now) f.root size) shelf own
   holds-own =
-      subst (λ y. HoldsIn (setup_of shelf.settings (g.meaning y) f.root size) shelf own) (sym f.custom_is)
-      (subst (λ t. HoldsIn (setup_of t (g.meaning x) f.root size) shelf own) (sym f.settings_are) f.holds)
+      subst (λ y. HoldsIn (setup_of shelf.settings (m y) f.root size) shelf own) (sym f.custom_is)
+      (subst (λ t. HoldsIn (setup_of t (m x) f.root size) shelf own) (sym f.settings_are) f.holds)
 
-  module _ (next : Shelf X g) (line : Line) (a : Result Answer Fault) (made : Call) where
-    makes_own : Makes (setup_of shelf.settings (g.meaning shelf.custom.now) f.root size) own next made (said a) → Makes (setup_of s (g.meaning x) f.root size) own next made (said a)
+  pub stands : Stands m shelf
+  stands = (f.root, size, own, holds-own)
+
+  module _ (next : Shelf X) (line : Line) (a : Result Answer Fault) (made : Call) where
+    makes_own : Makes (setup_of shelf.settings (m shelf.custom.now) f.root size) own next made (said a) → Makes (setup_of s (m x) f.root size) own next made (said a)
     makes_own h =
-        subst (λ t. Makes (setup_of t (g.meaning x) f.root size) own next made (said a)) f.settings_are
-        (subst (λ y. Makes (setup_of shelf.settings (g.meaning y) f.root size) own next made (said a)) f.custom_is h)
+        subst (λ t. Makes (setup_of t (m x) f.root size) own next made (said a)) f.settings_are
+        (subst (λ y. Makes (setup_of shelf.settings (m y) f.root size) own next made (said a)) f.custom_is h)
 
-    pub one_more : i < length lines → i < length answers → take (i + 1) lines ≡ take i lines ++ (line ∷ []) → Keeps shelf next → Asks work line made → Makes (setup_of shelf.settings (g.meaning shelf.custom.now) f.root size) own next made (said a)
-        → Sofar s x rs ns size work next lines (set answers i a) before (i + 1)
+    pub one_more : i < length lines → i < length answers → take (i + 1) lines ≡ take i lines ++ (line ∷ []) → Keeps shelf next → Asks work line made → Makes (setup_of shelf.settings (m shelf.custom.now) f.root size) own next made (said a)
+        → Sofar m s x rs ns size work next lines (set answers i a) before (i + 1)
     one_more l k read same ask h =
-        let st = setup_of s (g.meaning x) f.root size in
+        let st = setup_of s (m x) f.root size in
         let w = makes_own h in
         let now-answers : take (i + 1) (set answers i a) ≡ take i answers ++ (a ∷ []) = take_more_set answers i a k in
         record {
@@ -158,9 +162,9 @@ module _ {X : Type 0} {g : _} {s : Settings} {x : X} {rs ns : List ℕ} {size wo
         }
 
   -- after the last call
-  pub all_done : length lines ≤ i → i ≡ length lines → Replayed s (g.meaning x) rs ns size work lines answers shelf.page.now × (drop (length lines) answers ≡ drop (length lines) before)
+  pub all_done : length lines ≤ i → i ≡ length lines → Replayed s (m x) rs ns size work lines answers shelf.page.now × (drop (length lines) answers ≡ drop (length lines) before)
   all_done l exact =
-      let st = setup_of s (g.meaning x) f.root size in
+      let st = setup_of s (m x) f.root size in
       let whole : take i lines ≡ lines = take_all i lines l in
       let asked : AllAsk work lines f.calls = subst (λ ls. AllAsk work ls f.calls) whole f.asked in
       let many : length f.calls ≡ length lines = asked_many work lines f.calls asked in

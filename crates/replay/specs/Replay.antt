@@ -57,7 +57,7 @@ replies st held [] = []
 replies st held (c ∷ cs) = answer st held c ∷ replies st (after st held c) cs
 
 -- what one call answers, and what is held after it
-pub record Makes {X : Type 0} {g : _} (st : Setup) (held : Held st) (shelf : Shelf X g) (call : Call) (is : Got Reply) : Type 0 where
+pub record Makes {X : Type 0} (st : Setup) (held : Held st) (shelf : Shelf X) (call : Call) (is : Got Reply) : Type 0 where
   pub answered : is ≡ answer st held call
   pub holds : HoldsIn st shelf (after st held call)
 

@@ -4,10 +4,10 @@
 ghost use Rattle.std.specs.Prelude.{◌≡◌, ℕ, length};
 ghost use Rattle.tape.specs.Answer.{OpensTo};
 ghost use Rattle.laws.specs.Calls.{Call as Made};
-ghost use Rattle.shelf.specs.Shelves.{OfHeld, Keeps};
+ghost use Rattle.shelf.specs.Shelves.{Stands, OfHeld, Keeps};
 ghost use Rattle.replay.specs.Replay.{said, view_in, Asks, Makes, Replays};
 
-use entry::naming::NamingOf;
+use entry::naming::StructRowsOf;
 use leaf::Leaf;
 use schema::Schema;
 use schema::settings::Settings;
@@ -61,12 +61,13 @@ pub enum Answer {
 }
 
 // Makes one call.
-fn make<'a, X: Leaf, N: NamingOf<'a>>(
+fn make<'a, X: Leaf, S: StructRowsOf<'a>>(
     shelf: &mut Shelf<'_, 'a, X>,
     call: Call<'a>,
     work: &mut [u32],
 ) -> Result<Answer, Fault>
-    ensures makes { OfHeld shelf.old (λ st held. ((made : Made) × Asks (length work.old) call.entry made × Makes st held shelf.new made (said result))) }
+    requires { Stands X.Leaf.meaning shelf.old }
+    ensures makes { OfHeld X.Leaf.meaning shelf.old (λ st held. ((made : Made) × Asks (length work.old) call.entry made × Makes st held shelf.new made (said result))) }
     ensures keeps { Keeps shelf.old shelf.new }
 {
     Ok(match call {
@@ -77,7 +78,7 @@ fn make<'a, X: Leaf, N: NamingOf<'a>>(
         } => {
             let tape = tape.open()?;
             let lent = lent.min(work.len());
-            Answer::Batch(shelf.shelve::<N>(tape, positions, &mut work[..lent])?)
+            Answer::Batch(shelf.shelve::<S>(tape, positions, &mut work[..lent])?)
         }
         Call::Cell { batch, node, slot } => {
             let (kind, first, second) = shelf.cell(batch, node, slot)?;
@@ -92,7 +93,7 @@ fn make<'a, X: Leaf, N: NamingOf<'a>>(
 }
 
 // Opens a schema and a page, and makes the calls in order.
-pub fn replay<'a, X: Leaf, N: NamingOf<'a>>(
+pub fn replay<'a, X: Leaf, S: StructRowsOf<'a>>(
     records: &'a [u8],
     names: &'a [u8],
     settings: Settings,
@@ -112,7 +113,7 @@ pub fn replay<'a, X: Leaf, N: NamingOf<'a>>(
     let mut shelf = Shelf::new(page, schema, settings, custom);
     // By index: what is written through `iter_mut` would not be known afterwards.
     for (i, call) in calls.iter().enumerate() {
-        answers[i] = make::<X, N>(&mut shelf, *call, work);
+        answers[i] = make::<X, S>(&mut shelf, *call, work);
     }
     work.fill(0);
     Ok(())

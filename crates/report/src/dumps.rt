@@ -58,9 +58,12 @@ fn print_tape<'a>(
     texts: &'a [u8],
     offsets: &'a [u8],
 ) -> anyhow::Result<Outcome> {
-    rt.println(Records::new("elements", elements.len(), 8))?;
-    rt.println(Bytes::new("texts", texts.len()))?;
-    println!(rt; "{}\n", Records::new("offsets", offsets.len(), 4))?;
+    println!(rt;
+        "{}\n{}\n{}\n",
+        Records::new("elements", elements.len(), 8),
+        Bytes::new("texts", texts.len()),
+        Records::new("offsets", offsets.len(), 4)
+    )?;
     match Tape::open(elements, texts, offsets) {
         Ok(tape) => {
             let found = top_values(rt.alloc(), tape)?;
@@ -69,8 +72,7 @@ fn print_tape<'a>(
                 tape,
                 positions: found.as_slice(),
             };
-            println!(rt; "  OPENED: the bytes follow every rule of a tape\n\n{elements}")?;
-            rt.print(rows)?;
+            print!(rt; "  OPENED: the bytes follow every rule of a tape\n\n{elements}\n{rows}")?;
             Ok(Outcome::Opened)
         }
         Err(fault) => print_slip(rt, fault),
@@ -99,8 +101,11 @@ fn print_schema<'a>(
     records: &'a [u8],
     names: &'a [u8],
 ) -> anyhow::Result<Outcome> {
-    rt.println(Records::new("records", records.len(), 16))?;
-    println!(rt; "{}\n", Bytes::new("names", names.len()))?;
+    println!(rt;
+        "{}\n{}\n",
+        Records::new("records", records.len(), 16),
+        Bytes::new("names", names.len())
+    )?;
     match Schema::open(records, names) {
         Ok(schema) => {
             let nodes = Nodes(schema);

@@ -27,6 +27,7 @@ pub(crate) struct Counted {
 // Reads every row in order, up to the first that is refused.
 pub(crate) fn count_rows<K: RowKind>(kind: &K, reading: Reading<'_>) -> Result<Counted, Fault>
     requires ready { K.ready kind.now }
+    requires few { length reading.rows.positions.now ≤ 2 ^ 24 }
     ensures said { answer_of result ≡ then (each (row_in reading.entry (K.branch kind.now) (K.children kind.now)) reading.entry.rows.positions.now) (λ os. got (counts_of (K.branch kind.now) (K.children kind.now) os)) }
     ensures few { IfOk result (λ n. (n.items ≤ 2 ^ 48) × (n.nulls ≤ 2 ^ 24) × (many (K.children kind.now) ≡ 0 → n.items ≤ 2 ^ 24)) }
 {
@@ -77,6 +78,7 @@ pub fn enter<K: RowKind, O: OffsetSize>(
     top: usize,
 ) -> Result<Entered, Fault>
     requires ready { K.ready kind.now }
+    requires few { length reading.rows.positions.now ≤ 2 ^ 24 }
     requires lent { length work.old ≤ 2 ^ 24 }
     requires place { Place area.old reading.node top }
     requires suits { Suits O.OffsetSize.WIDTH (K.branch kind.now) }

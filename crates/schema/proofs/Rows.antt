@@ -14,6 +14,11 @@ use Rattle.schema.specs.Checks.Kinded.{struct', fixed', list', view', map', text
 use Rattle.schema.specs.OneTree.{same_tree}
 use Rattle.schema.proofs.Trees.{kinded_one, written_fit}
 
+-- an answer that finds P finds Q, where both hold of the same
+pub finds_both : {A : Type 0} {P Q : A → Type 0} (r : Option A) → ((k : A) → P k → Q k) → ((k : A) → Q k → P k) → Finds P r → Finds Q r
+finds_both (Some k) to from h = to k h
+finds_both None to from h = λ k q. h k (from k q)
+
 -- what P holds of is found
 pub finds_some : {A : Type 0} (P : A → Type 0) (r : Option A) (k : A) → Finds P r → P k → IsSome r
 finds_some P (Some j) k h p = refl

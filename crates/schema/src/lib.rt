@@ -16,7 +16,7 @@ pub mod records;
 pub mod settings;
 
 use children::Children;
-use kind::Kind;
+use kind::{Branch, Kind, LeafKind};
 use records::Records;
 use slip::Fault;
 
@@ -79,7 +79,20 @@ impl<'a> Schema<'a> {
         requires { i < size_of self }
         ensures { (t : Node) → NodeOf self.entry i t → result ≡ kind_of t }
     {
-        self.records.kind(i).unwrap()
+        let wide = self.wide(i);
+        match self.letter(i) {
+            'S' => Kind::Branch(Branch::Struct),
+            'L' => Kind::Branch(Branch::List { view: false, wide }),
+            'V' => Kind::Branch(Branch::List { view: true, wide }),
+            'F' => Kind::Branch(Branch::Fixed {
+                count: self.count(i),
+            }),
+            'M' => Kind::Branch(Branch::Map),
+            'T' => Kind::Leaf(LeafKind::Text { wide }),
+            'B' => Kind::Leaf(LeafKind::Boolean),
+            'N' => Kind::Leaf(LeafKind::Null),
+            _ => Kind::Leaf(LeafKind::Custom),
+        }
     }
 
     // Whether node `i` has the nullable flag.

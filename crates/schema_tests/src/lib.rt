@@ -174,7 +174,7 @@ mod tests {
                     return false;
                 }
                 let scan = Scan::of(schema, 0);
-                let table = Table::from(Scan::of(schema, 0));
+                let table = Table::from(scan);
                 let index = Index::of(schema, 0);
                 scan.find(name) == place && table.find(name) == place && index.find(name) == place
             }

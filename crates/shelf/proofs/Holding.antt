@@ -14,9 +14,7 @@ use Rattle.laws.specs.Shelf.{Held, used}
 use Rattle.laws.specs.Calls.{Release, release}
 use Rattle.laws.proofs.Pages.{used-take, start_next, lies, page-take}
 use Rattle.schema.specs.Opened.{TreeOf}
-use Rattle.schema.specs.declared.settings.Settings.{Settings}
-use Rattle.leaf.specs.Meaning.{Meaning}
-use Rattle.shelf.specs.Standing.{start_in, Holds, Standing, Fits, Stands, Does, Fresh}
+use Rattle.shelf.specs.Standing.{start_in, Holds, Fits, Does, Fresh}
 
 -- zeros over all from a place on, where zeros stand behind another
 pub zeroed : (P : List ℕ) (from to size : ℕ) → from ≤ to → to ≤ size → drop to P ≡ replicate (size - to) 0
@@ -69,6 +67,10 @@ module _ {st : Setup} {schema : Schema} {bytes ends : List ℕ} {held : Held st}
         let n : start_in ends (i + 1) - start_in ends i ≡ length (bytes_of st (get_or held i [])) = omega (arith, next_is) in
         ap₂ (λ a k. part bytes a k) (start_is i (omega arith)) n
         ∙ ap (λ b. part b (used st (take i held)) (length (bytes_of st (get_or held i [])))) h.lies ∙ lies st held i l
+
+  -- no batch ends before it begins
+  pub starts_rise : (i : ℕ) → i < length ends → start_in ends i ≤ start_in ends (i + 1)
+  starts_rise i l = rises i (omega (arith, h.many))
 
   -- 64 batches are all that there may be
   pub all_held : eqb (length ends) 64 ≡ ltb 63 (length held)
@@ -131,15 +133,27 @@ module _ {st : Setup} {schema : Schema} {bytes ends : List ℕ} {held : Held st}
         (subst (λ xs. Does st held schema left xs Release (release st held) (got (length ends - 1))) (sym (d ∙ ap (λ k. take k ends) n))
         (subst (λ xs. Does st held schema xs (take (length ends - 1) ends) Release (release st held) (got (length ends - 1))) (sym (e ∙ ap₂ (λ u v. splice bytes u (replicate {A = ℕ} (v - u) 0)) own next)) (releases)))
 
--- on a page that fits something stands
-pub stands_fit : {s : Settings} {m : Meaning} {schema : Schema} {bytes ends : List ℕ} → Fits (length bytes) → Stands s m schema bytes ends → Standing s m schema bytes ends
-stands_fit fit (inl x) = x
-stands_fit fit (inr none) = absurd (none.0 fit)
+-- where the ends are cut off behind n of them, the starts up to there stay
+pub start_in_take : (ends : List ℕ) (n i : ℕ) → i ≤ n → start_in (take n ends) i ≡ start_in ends i
+start_in_take ends n zero l = refl
+start_in_take ends n (suc i) l = let e : suc i - 1 ≡ i = omega arith in rw (eqb-suc-zero i, e) (get_or-take n ends i 0 (omega arith))
 
--- where there is a batch, something stands
-pub stands_some : {s : Settings} {m : Meaning} {schema : Schema} {bytes ends : List ℕ} → 0 < length ends → Stands s m schema bytes ends → Standing s m schema bytes ends
-stands_some some (inl x) = x
-stands_some some (inr none) = absurd (omega (arith, ap length none.1))
+-- no batch begins or ends outside, and none ends before it begins: of no batches, and where the newest goes
+module _ (ends : List ℕ) where
+  pub none_inside : {size : ℕ} → ends ≡ [] → (i : ℕ) → i ≤ length ends → start_in ends i ≤ size
+  none_inside e zero l = omega arith
+  none_inside e (suc i) l = absurd (omega (arith, ap length e))
+
+  pub none_rising : ends ≡ [] → (i : ℕ) → i < length ends → start_in ends i ≤ start_in ends (i + 1)
+  none_rising e i l = absurd (omega (arith, ap length e))
+
+  pub fewer_inside : {size : ℕ} (n : ℕ) → n ≤ length ends → ((i : ℕ) → i ≤ length ends → start_in ends i ≤ size) → (i : ℕ) → i ≤ length (take n ends) → start_in (take n ends) i ≤ size
+  fewer_inside n l h i k = let m = length-take-le n ends l in omega (arith, start_in_take ends n i (omega (arith, m)), h i (omega (arith, m)))
+
+  pub fewer_rising : (n : ℕ) → n ≤ length ends → ((i : ℕ) → i < length ends → start_in ends i ≤ start_in ends (i + 1)) → (i : ℕ) → i < length (take n ends) → start_in (take n ends) i ≤ start_in (take n ends) (i + 1)
+  fewer_rising n l h i k =
+      let m = length-take-le n ends l in
+      omega (arith, start_in_take ends n i (omega (arith, m)), start_in_take ends n (i + 1) (omega (arith, m)), h i (omega (arith, m)))
 
 -- a page that is all zeros now
 pub fresh_now : {n : ℕ} {bytes : List ℕ} → Fits n → bytes ≡ replicate n 0 → Fresh bytes

@@ -1,5 +1,5 @@
 -- What a page holds, and what the calls on it promise.
-use Rattle.std.specs.Prelude.{◌≡◌, ℕ, ◌+◌, ◌-◌, ◌*◌, ◌%◌, ◌^◌, ◌<◌, ◌≤◌, false, cond, ◌⊎◌, List, [], length, take, replicate, IfOk, IfErr, Ok, Err, Result, ◌==◌, ◌≢◌, slice_index}
+use Rattle.std.specs.Prelude.{◌≡◌, ℕ, ◌+◌, ◌-◌, ◌*◌, ◌%◌, ◌^◌, ◌<◌, ◌≤◌, false, cond, List, [], length, take, replicate, IfOk, IfErr, Ok, Err, Result, ◌==◌, ◌≢◌, slice_index}
 use Rattle.slip.specs.declared.Fault.{Fault}
 use Rattle.slip.specs.Slips.{Got, got, answer_of, slip, slip_of}
 use Rattle.octets.specs.Lists.{splice}
@@ -41,13 +41,9 @@ pub record Holds (st : Setup) (schema : Schema) (bytes ends : List ℕ) (held : 
 abbrev pub Standing : Settings → Meaning → Schema → (bytes ends : List ℕ) → Type 0
 Standing s m schema bytes ends = (root : Node) × (size : ℕ) × (held : Held (setup_of s m root size)) × Holds (setup_of s m root size) schema bytes ends held
 
--- the length of a page that a shelf writes: at most 2^24 bytes, a multiple of 8
+-- the length of a page that a shelf may have: at most 2^24 bytes, a multiple of 8
 abbrev pub Fits : (size : ℕ) → Type 0
 Fits size = (size ≤ 2 ^ 24) × (size % 8 ≡ 0)
-
--- there is something that a page holds, be it nothing; or the page does not fit, and no batch lies on it
-abbrev pub Stands : Settings → Meaning → Schema → (bytes ends : List ℕ) → Type 0
-Stands s m schema bytes ends = Standing s m schema bytes ends ⊎ ((Fits (length bytes) → ⊥) × (ends ≡ []))
 
 -- a page on which a shelf can begin: at most 2^24 bytes, a multiple of 8, all zeros
 pub record Fresh (bytes : List ℕ) : Type 0 where

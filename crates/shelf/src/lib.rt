@@ -1,7 +1,7 @@
 // A shelf: a page of bytes that holds batches end to end.
 #![tactic(auto)]
 
-ghost use Rattle.std.specs.Prelude.{◌≡◌, ℕ, ◌+◌, ◌-◌, ◌*◌, ◌^◌, ◌<◌, ◌≤◌, [], length, replicate, Decides, IsFalse};
+ghost use Rattle.std.specs.Prelude.{◌≡◌, ℕ, ◌+◌, ◌-◌, ◌*◌, ◌^◌, ◌<◌, ◌≤◌, [], length, replicate, Decides};
 ghost use Rattle.slip.specs.Slips.{answer_of, then, got};
 ghost use Rattle.tape.specs.Opened.{view_of};
 ghost use Rattle.schema.specs.Tree.{Node, kind_of};
@@ -10,11 +10,12 @@ ghost use Rattle.batch.specs.Cells.{triple};
 ghost use Rattle.laws.specs.Shelf.{bad_position, is_full, shelve, used};
 ghost use Rattle.laws.specs.Calls.{Shelve, Release, cell_at, release, count};
 ghost use Rattle.nodes.specs.Contract.{setup_of};
-ghost use Rattle.shelf.specs.Standing.{start_in, Fits, Stands, Cleared, Writes, Fresh, Holds, shape_by};
+ghost use Rattle.shelf.specs.Standing.{start_in, Fits, Cleared, Writes, Fresh, shape_by};
 
 use arrayvec::ArrayVec;
 use batch::cell::{Shape, cell};
-use entry::naming::{Named, Naming, NamingOf};
+use entry::StructRows;
+use entry::naming::{Named, StructRowsOf};
 use leaf::Leaf;
 use leaf::layout::Layout;
 use nodes::{Frame, Visit};
@@ -71,12 +72,13 @@ fn check_positions(tape: Tape<'_>, positions: &[u32]) -> Result<(), Fault>
 }
 
 // Walks from the root, and writes a batch at the start of the area; a refusal leaves the area as it was.
-fn write<X: Leaf, N: Naming>(
-    named: Named<'_, X, N>,
+fn write<X: Leaf, S: StructRows>(
+    named: Named<'_, X, S>,
     rows: Rows<'_>,
     work: &mut [u32],
     area: &mut [u8],
 ) -> Result<usize, Fault>
+    requires few { length rows.positions.now ≤ 2 ^ 24 }
     requires lent { length work.old ≤ 2 ^ 24 }
     requires small { length area.old ≤ 2 ^ 24 }
     requires records { 32 * size_of named.frame.schema ≤ length area.old }
@@ -121,20 +123,22 @@ fn shape(schema: Schema<'_>, custom: Layout, node: usize) -> Shape
 
 // Batches on a page, of one schema, one set of settings and one custom leaf.
 #[derive(Drop)]
-pub struct Shelf<'p, 'a, X: Leaf> {
+pub struct Shelf<'p, 'a, X> {
     page: &'p mut [u8],
     schema: Schema<'a>,
     settings: Settings,
     custom: &'a X,
     // Where each batch ends.
     ends: ArrayVec<u32, 64>,
-    pub ghost standing: { ∥ Stands settings (X.Leaf.meaning custom.now) schema page.now ends.items ∥₁ },
+    pub ghost few: { length ends.items ≤ 64 },
+    pub ghost inside: { (i : ℕ) → i ≤ length ends.items → start_in ends.items i ≤ length page.now },
+    pub ghost rising: { (i : ℕ) → i < length ends.items → start_in ends.items i ≤ start_in ends.items (i + 1) },
 }
 
 impl<'p, 'a, X: Leaf> Shelf<'p, 'a, X> {
-    ghost use Rattle.shelf.specs.Shelves.{HoldsIn, OfHeld, DoesIn, Keeps};
+    ghost use Rattle.shelf.specs.Shelves.{HoldsIn, Stands, OfHeld, DoesIn, Keeps};
 
-    // A shelf on a page, which holds nothing; a page that does not fit is never written.
+    // A shelf on a cleared page, which holds nothing.
     pub fn new(
         page: &'p mut [u8],
         schema: Schema<'a>,
@@ -142,14 +146,12 @@ impl<'p, 'a, X: Leaf> Shelf<'p, 'a, X> {
         custom: &'a X,
     ) -> Shelf<'p, 'a, X>
         ensures page { result.page.ghost_name ≡ page.entry.ghost_name }
+        ensures untouched { result.page.now ≡ page.old }
         ensures schema { result.schema ≡ schema.entry }
         ensures settings { result.settings ≡ settings }
         ensures custom { result.custom ≡ custom.entry }
         ensures holds { (root : Node) → TreeOf schema.entry root → Fresh page.old → HoldsIn (setup_of settings (X.Leaf.meaning custom.now) root (length page.old)) result [] }
     {
-        if fits(page.len()) {
-            page.fill(0);
-        }
         Shelf {
             page,
             schema,
@@ -189,31 +191,30 @@ impl<'p, 'a, X: Leaf> Shelf<'p, 'a, X> {
 
     // How many bytes are free.
     fn free(&self) -> usize
-        ensures { OfHeld self.now (λ st held. result ≡ st.size - used st held) }
+        ensures { OfHeld X.Leaf.meaning self.now (λ st held. result ≡ st.size - used st held) }
     {
         self.page.len() - self.end()
     }
 
-    // Whether the page does not fit, or positions, work list or batches are too many, or the records have no space.
+    // Whether positions, work list or batches are too many, or the records have no space.
     fn is_full(&self, positions: usize, lent: usize) -> bool
-        ensures page { IsFalse result → Fits (length self.now.page.now) }
-        ensures held { OfHeld self.now (λ st held. result ≡ is_full st held positions lent) }
+        ensures { OfHeld X.Leaf.meaning self.now (λ st held. result ≡ is_full st held positions lent) }
     {
-        !fits(self.page.len())
-            || positions > 65_535
+        positions > 65_535
             || lent > 1 << 24
             || self.ends.is_full()
             || self.free() < 32 * self.schema.len()
     }
 
     // Adds a batch of the rows at some positions; the work list is left as it falls.
-    fn add<N: NamingOf<'a>>(
+    fn add<S: StructRowsOf<'a>>(
         &mut self,
         tape: Tape<'a>,
         positions: &[u32],
         work: &mut [u32],
     ) -> Result<usize, Fault>
-        ensures does { OfHeld self.old (λ st held. DoesIn st held self.new (Shelve (view_of tape.entry) positions.now (length work.old)) (shelve st held (view_of tape.entry) positions.now (length work.old)) (answer_of result)) }
+        requires { Stands X.Leaf.meaning self.old }
+        ensures does { OfHeld X.Leaf.meaning self.old (λ st held. DoesIn st held self.new (Shelve (view_of tape.entry) positions.now (length work.old)) (shelve st held (view_of tape.entry) positions.now (length work.old)) (answer_of result)) }
         ensures keeps { Keeps self.old self.new }
     {
         check_positions(tape, positions)?;
@@ -222,7 +223,7 @@ impl<'p, 'a, X: Leaf> Shelf<'p, 'a, X> {
         }
         let number = self.ends.len();
         let from = self.end();
-        let names = N::of(self.schema);
+        let names = S::reader_of(self.schema);
         let named = Named {
             frame: Frame {
                 schema: self.schema,
@@ -238,24 +239,25 @@ impl<'p, 'a, X: Leaf> Shelf<'p, 'a, X> {
     }
 
     // Adds a batch of the rows at some positions, and answers its number. The work list holds zeros afterwards.
-    pub fn shelve<N: NamingOf<'a>>(
+    pub fn shelve<S: StructRowsOf<'a>>(
         &mut self,
         tape: Tape<'a>,
         positions: &[u32],
         work: &mut [u32],
     ) -> Result<usize, Fault>
-        ensures does { OfHeld self.old (λ st held. DoesIn st held self.new (Shelve (view_of tape.entry) positions.now (length work.old)) (shelve st held (view_of tape.entry) positions.now (length work.old)) (answer_of result)) }
+        requires { Stands X.Leaf.meaning self.old }
+        ensures does { OfHeld X.Leaf.meaning self.old (λ st held. DoesIn st held self.new (Shelve (view_of tape.entry) positions.now (length work.old)) (shelve st held (view_of tape.entry) positions.now (length work.old)) (answer_of result)) }
         ensures zeroed { work.new ≡ replicate (length work.old) 0 }
         ensures keeps { Keeps self.old self.new }
     {
         let guard = Lent { words: work };
-        self.add::<N>(tape, positions, &mut *guard.words)
+        self.add::<S>(tape, positions, &mut *guard.words)
     }
 
     // What stands in a slot of a node of a batch.
     // The answer is the three numbers of a `Content`, a kind and two that belong to it: callers of other languages read it.
     pub fn cell(&self, batch: usize, node: usize, slot: usize) -> Result<(u32, usize, usize), Fault>
-        ensures { OfHeld self.now (λ st held. answer_of result ≡ then (cell_at st held batch node slot) (λ c. got (triple c))) }
+        ensures { OfHeld X.Leaf.meaning self.now (λ st held. answer_of result ≡ then (cell_at st held batch node slot) (λ c. got (triple c))) }
     {
         if batch >= self.ends.len() || node >= self.schema.len() {
             return Err(Fault::NotThere);
@@ -268,7 +270,7 @@ impl<'p, 'a, X: Leaf> Shelf<'p, 'a, X> {
 
     // Frees the newest batch, and answers its number.
     pub fn release(&mut self) -> Result<usize, Fault>
-        ensures does { OfHeld self.old (λ st held. DoesIn st held self.new Release (release st held) (answer_of result)) }
+        ensures does { OfHeld X.Leaf.meaning self.old (λ st held. DoesIn st held self.new Release (release st held) (answer_of result)) }
         ensures keeps { Keeps self.old self.new }
     {
         let Some(newest) = self.ends.len().checked_sub(1) else {
@@ -282,7 +284,7 @@ impl<'p, 'a, X: Leaf> Shelf<'p, 'a, X> {
 
     // Batches held, and free bytes.
     pub fn count(&self) -> (usize, usize)
-        ensures { OfHeld self.now (λ st held. result ≡ count st held) }
+        ensures { OfHeld X.Leaf.meaning self.now (λ st held. result ≡ count st held) }
     {
         (self.ends.len(), self.free())
     }

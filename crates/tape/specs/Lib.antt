@@ -4,6 +4,7 @@ pub mod Values
 pub mod Grammar
 pub mod Found
 pub mod Opens
+pub mod Checks
 pub mod Halves
 pub mod Unique
 pub mod Opened

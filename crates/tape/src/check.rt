@@ -3,27 +3,32 @@ ghost use Rattle.std.specs.Prelude.{◌≡◌, ◌+◌, ◌<◌, Decides};
 ghost use Rattle.tape.specs.Layout.{element_count};
 ghost use Rattle.tape.specs.Grammar.{Value, Values};
 ghost use Rattle.tape.specs.Found.{Finds, Meets, ListTo, ObjectTo};
-ghost use Rattle.tape.specs.Opens.{Opens};
+ghost use Rattle.tape.specs.Checks.{Framed, Formed};
 
 use crate::layout::{Elements, Offsets};
 
-// Whether they follow every rule of a tape.
-pub(crate) fn is_tape(elements: Elements<'_>, texts: &str, offsets: Offsets<'_>) -> bool
-    ensures { Decides result (Opens elements.entry.bytes.now texts.now offsets.entry.bytes.now) }
+// Whether they follow the rules that need no look at the texts, which have so many bytes.
+pub(crate) fn is_framed(elements: Elements<'_>, texts: usize, offsets: Offsets<'_>) -> bool
+    ensures { Decides result (Framed elements.entry.bytes.now texts offsets.entry.bytes.now) }
 {
-    let grammar = Grammar {
-        elements,
-        offsets: offsets.len(),
-    };
     elements.len() <= 1 << 24
-        && texts.len() <= 1 << 24
+        && texts <= 1 << 24
         && offsets.len() <= 1 << 24
         && elements.len() > 0
         && elements.letter(0) == 'z'
         && elements.number(0) == 0
         && elements.are_bare()
-        && offsets.rise(texts)
-        && grammar.is_filled()
+}
+
+// Whether they follow the other rules: the offsets cut the texts well, and values fill the elements.
+pub(crate) fn is_formed(elements: Elements<'_>, texts: &str, offsets: Offsets<'_>) -> bool
+    ensures { Decides result (Formed elements.entry.bytes.now texts.now offsets.entry.bytes.now) }
+{
+    let grammar = Grammar {
+        elements,
+        offsets: offsets.len(),
+    };
+    offsets.rise(texts) && grammar.is_filled()
 }
 
 // The grammar of elements, beside so many offsets.

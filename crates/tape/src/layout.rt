@@ -97,7 +97,9 @@ impl<'a> Offsets<'a> {
     pub(crate) fn rise(self, text: &str) -> bool
         ensures { Decides result (Rise text.now self.entry.bytes.now) }
     {
-        (1..self.len()).all(|k| self.get(k - 1) <= self.get(k))
-            && (0..self.len()).all(|k| text.is_char_boundary(self.get(k)))
+        (0..self.len()).all(|k| {
+            let next = self.get(k);
+            (k == 0 || self.get(k - 1) <= next) && text.is_char_boundary(next)
+        })
     }
 }

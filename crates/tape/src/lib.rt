@@ -10,7 +10,7 @@ ghost use Rattle.tape.specs.View.{view, twos, is_at, text_at, words_at, element_
 ghost use Rattle.tape.specs.Walk.{onward, ListLaw, ObjectLaw, RowsLaw, NextLaw, FirstLaw, TextLaw};
 ghost use Rattle.tape.specs.Unique.{Opens-prop};
 
-use check::is_tape;
+use check::{is_formed, is_framed};
 use element::{Element, TapeElement};
 use layout::{Elements, Offsets};
 use slip::Fault;
@@ -41,9 +41,13 @@ impl<'a> Tape<'a> {
         ensures { OpensTo (view elements.now texts.now offsets.now) result }
     {
         let elements = Elements::new(elements).ok_or(Fault::TornTape)?;
-        let texts = std::str::from_utf8(texts).map_err(|_| Fault::TornTape)?;
         let offsets = Offsets::new(offsets).ok_or(Fault::TornTape)?;
-        if !is_tape(elements, texts, offsets) {
+        // The texts are read after this, so that bytes of wrong sizes are refused without a look at them.
+        if !is_framed(elements, texts.len(), offsets) {
+            return Err(Fault::TornTape);
+        }
+        let texts = std::str::from_utf8(texts).map_err(|_| Fault::TornTape)?;
+        if !is_formed(elements, texts, offsets) {
             return Err(Fault::TornTape);
         }
         Ok(Tape {

@@ -5,8 +5,8 @@ ghost use Rattle.std.specs.Prelude.{length};
 ghost use Rattle.nodes.specs.Contract.{seen, Ready, Walked};
 
 use bare::{leave, visit_child};
-use entry::enter;
-use entry::naming::{Named, Naming};
+use entry::naming::Named;
+use entry::{StructRows, enter};
 use leaf::Leaf;
 use nodes::Visit;
 use rows::Entered;
@@ -14,8 +14,8 @@ use slip::Fault;
 use tape::rows::Rows;
 
 // Walks a node and those below it; `top` is where the next buffer goes, and stays behind the last that was written.
-pub fn walk<X: Leaf, N: Naming>(
-    named: Named<'_, X, N>,
+pub fn walk<X: Leaf, S: StructRows>(
+    named: Named<'_, X, S>,
     visit: Visit<'_>,
     work: &mut [u32],
     area: &mut [u8],

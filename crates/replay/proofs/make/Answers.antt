@@ -12,7 +12,7 @@ pub returns-in_err-shelve-in-Shelve-clause-makes : goal.returns-in_err-shelve-in
 returns-in_err-shelve-in-Shelve-clause-makes g c = λ root size held h.
     let line = c.in-Shelve in
     let work = length c.args.work.now in
-    let q = shelved (setup_in c.args.shelf.now root size) held c.shelve.new.self (view_in line.tape) line.positions.now (length (take c.min-lent.result c.args.work.now)) (view_of c.in_ok-tape-in-Shelve.tape) (refuse (slip_of c.in_err-shelve-in-Shelve.field-0.0))
+    let q = shelved (setup_in g.X.Leaf.meaning c.args.shelf.now root size) held c.shelve.new.self (view_in line.tape) line.positions.now (length (take c.min-lent.result c.args.work.now)) (view_of c.in_ok-tape-in-Shelve.tape) (refuse (slip_of c.in_err-shelve-in-Shelve.field-0.0))
     c.in_ok-tape-in-Shelve.ensures.0 c.in_ok-tape-in-Shelve.ensures.1 (c.in_err-shelve-in-Shelve.ensures.does root size held h) in
     let p = err_from_is_err_and c.from_residual-in_err-shelve-in-Shelve.result c.from_residual-in_err-shelve-in-Shelve.ensures.1 in
     let lent = length-take c.min-lent.result c.args.work.now ∙ lent_is line.lent work c.min-lent.result c.min-lent.ensures in (
@@ -25,7 +25,7 @@ pub returns-in_ok-shelve-in-Shelve-clause-makes : goal.returns-in_ok-shelve-in-S
 returns-in_ok-shelve-in-Shelve-clause-makes g c = λ root size held h.
     let line = c.in-Shelve in
     let work = length c.args.work.now in
-    let q = shelved (setup_in c.args.shelf.now root size) held c.shelve.new.self (view_in line.tape) line.positions.now (length (take c.min-lent.result c.args.work.now)) (view_of c.in_ok-tape-in-Shelve.tape) (got c.in_ok-shelve-in-Shelve.field-0)
+    let q = shelved (setup_in g.X.Leaf.meaning c.args.shelf.now root size) held c.shelve.new.self (view_in line.tape) line.positions.now (length (take c.min-lent.result c.args.work.now)) (view_of c.in_ok-tape-in-Shelve.tape) (got c.in_ok-shelve-in-Shelve.field-0)
     c.in_ok-tape-in-Shelve.ensures.0 c.in_ok-tape-in-Shelve.ensures.1 (c.in_ok-shelve-in-Shelve.ensures.does root size held h) in
     let lent = length-take c.min-lent.result c.args.work.now ∙ lent_is line.lent work c.min-lent.result c.min-lent.ensures in
     (q.0, subst (λ l. Asks work l q.0) (sym line.is) (subst (λ n. ShelveFrom (view_in line.tape) line.positions.now n q.0) lent q.1), q.2)
@@ -36,7 +36,7 @@ returns-in_err-kind-in-Cell-clause-makes g c = λ root size held h.
     let call = Cell c.in-Cell.batch c.in-Cell.node c.in-Cell.slot in (
       call,
       subst (λ l. Asks (length c.args.work.now) l call) (sym c.in-Cell.is) refl,
-      record { answered = ap said (p.1 ∙ ap Err p.2) ∙ cell_refused (cell_at (setup_in c.args.shelf.now root size) held c.in-Cell.batch c.in-Cell.node c.in-Cell.slot) _ (c.in_err-kind-in-Cell.ensures root size held h); holds = h },
+      record { answered = ap said (p.1 ∙ ap Err p.2) ∙ cell_refused (cell_at (setup_in g.X.Leaf.meaning c.args.shelf.now root size) held c.in-Cell.batch c.in-Cell.node c.in-Cell.slot) _ (c.in_err-kind-in-Cell.ensures root size held h); holds = h },
     )
 
 pub returns-in_ok-kind-in-Cell-clause-makes : goal.returns-in_ok-kind-in-Cell-clause-makes
@@ -44,5 +44,5 @@ returns-in_ok-kind-in-Cell-clause-makes g c = λ root size held h.
     let call = Cell c.in-Cell.batch c.in-Cell.node c.in-Cell.slot in (
       call,
       subst (λ l. Asks (length c.args.work.now) l call) (sym c.in-Cell.is) refl,
-      record { answered = cell_said (cell_at (setup_in c.args.shelf.now root size) held c.in-Cell.batch c.in-Cell.node c.in-Cell.slot) _ _ _ (c.in_ok-kind-in-Cell.ensures root size held h); holds = h },
+      record { answered = cell_said (cell_at (setup_in g.X.Leaf.meaning c.args.shelf.now root size) held c.in-Cell.batch c.in-Cell.node c.in-Cell.slot) _ _ _ (c.in_ok-kind-in-Cell.ensures root size held h); holds = h },
     )

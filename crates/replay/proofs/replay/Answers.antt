@@ -4,7 +4,7 @@ use Rattle.std.proofs.lemmas.Result.{err_from_is_err_and}
 use Rattle.replay.specs.Replay.{Replayed, Replays, Asks, no_room, no_page}
 use Rattle.replay.specs.declared.Call.TheVariants.{Count as CountLine}
 use Rattle.shelf.proofs.Holding.{page_size}
-use Rattle.replay.proofs.Replays.{tree_as, begun, holds-own, one_more, all_done}
+use Rattle.replay.proofs.Replays.{tree_as, begun, holds-own, stands, one_more, all_done}
 use Rattle.replay.proofs.replay.Goals as goal
 
 pub returns-then-answers-calls : goal.returns-then-answers-calls
@@ -23,10 +23,13 @@ returns-in_err-clear g c =
 pub loop-i-init : goal.loop-i-init
 loop-i-init g c =
     let o = c.in_ok-schema.ensures.tree in (
-      begun c.args.settings c.args.custom.now c.args.records.now c.args.names.now (length c.clear.new.page) (length c.args.work.now) c.new-shelf.result c.args.calls.now c.args.answers.now o.0.0
+      begun g.X.Leaf.meaning c.args.settings c.args.custom.now c.args.records.now c.args.names.now (length c.clear.new.page) (length c.args.work.now) c.new-shelf.result c.args.calls.now c.args.answers.now o.0.0
           (tree_as o.1 o.2 o.0.1) (c.new-shelf.ensures.holds o.0.0 o.0.1 c.in_ok-clear.ensures.0) c.new-shelf.ensures.settings (ap (λ r. r.now) c.new-shelf.ensures.custom),
       refl,
     )
+
+pub make-requires : goal.make-requires
+make-requires g c = λ k. ((refl, tt), stands c.loop-i.invariant.0)
 
 pub loop-i-preserved : goal.loop-i-preserved
 loop-i-preserved g c =

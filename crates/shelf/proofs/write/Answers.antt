@@ -7,6 +7,7 @@ pub walk-requires : goal.walk-requires
 walk-requires g c = record {
   ready = record {
     formed = (c.args.named.frame.schema.opened.0, c.args.named.frame.schema.opened.1.held);
+    few = c.requires.few;
     lent = c.requires.lent;
     apart = omega (arith, c.len.ensures.said, (held_end c.args.named.frame.schema.opened.1.held).1);
     within = omega (arith, c.len.ensures.said, c.requires.records);

@@ -1,4 +1,4 @@
-use Rattle.std.proofs.Common.{◌≡◌, ◌∷◌, length, Ok, Err, sym, refl, ap, ◌∙◌, subst, arith}
+use Rattle.std.proofs.Common.{◌≡◌, ◌^◌, ◌≤◌, ◌∷◌, length, Ok, Err, sym, refl, ap, ◌∙◌, subst, arith, length-append}
 use Rattle.std.proofs.lemmas.Result.{err_from_is_err_and}
 use Rattle.schema.specs.Children.{rest}
 use Rattle.schema.proofs.Nodes.{held_written}
@@ -40,7 +40,7 @@ loop-child-init g t c =
     )
 
 pub invariant_of-rows : goal.invariant_of-rows
-invariant_of-rows g t c = record { taken = c.loop-child.invariant.3; few = c.loop-child.invariant.4 }
+invariant_of-rows g t c = record { taken = c.loop-child.invariant.3 }
 
 pub visit_child-requires-clause-parent : goal.visit_child-requires-clause-parent
 visit_child-requires-clause-parent g t c = (held_written c.requires.ready.formed.1).within
@@ -50,6 +50,12 @@ visit_child-requires-clause-enough g t c =
     let i = entered g t (goal.at.visit_child-requires-clause-enough g t c).In_ok-kids in
     let sp = c.split_at_mut-mine.ensures in
     child_enough i _ _ sp.value sp.front_len _ _ c.loop-child.area c.loop-child.top c.loop-child.invariant.7 c.in-Some.ensures.steps
+
+-- the child's rows and the others are no more than were left
+few_apart : (g : _) (t : _) (c : After-visit_child g t) → (length c.visit_child.result.0.rows.positions.now ≤ 2 ^ 24) × (length c.visit_child.result.1.positions.now ≤ 2 ^ 24)
+few_apart g t c =
+    let long = ap length c.visit_child.ensures.halves ∙ length-append c.visit_child.result.0.rows.positions.now c.visit_child.result.1.positions.now in
+    (omega (arith, long, c.loop-child.invariant.4), omega (arith, long, c.loop-child.invariant.4))
 
 -- the child that is visited is the next of the children, and its rows lie in the same tape
 turn : (g : _) (t : _) (c : After-visit_child g t) → rest c.loop-child.child-iterator ≡ c.visit_child.result.0.node ∷ rest c.next.new.self
@@ -69,12 +75,9 @@ walk-requires g t c κs within =
       (
         within.0,
         (
-          within.1.0,
-          (
-            within.1.1,
-            subst (λ v. Ready v c.loop-child.deeper c.loop-child.area c.loop-child.top) (sym (sees g t a))
-                (child_ready i _ _ sp.value sp.front_len _ _ c.loop-child.area c.loop-child.top c.loop-child.invariant.7 (turn g t a) _ _ c.loop-child.deeper (omega arith) c.loop-child.invariant.5 c.loop-child.invariant.6 (omega arith)),
-          ),
+          within.1,
+          subst (λ v. Ready v c.loop-child.deeper c.loop-child.area c.loop-child.top) (sym (sees g t a))
+              (child_ready i _ _ sp.value sp.front_len _ _ c.loop-child.area c.loop-child.top c.loop-child.invariant.7 (turn g t a) _ _ c.loop-child.deeper (few_apart g t a).0 (omega arith) c.loop-child.invariant.5 c.loop-child.invariant.6 (omega arith)),
         ),
       ),
     )
@@ -102,7 +105,7 @@ loop-child-preserved g t c =
       tt,
       w.same_tape ∙ c.loop-child.invariant.2,
       c.visit_child.result.1.taken,
-      c.visit_child.result.1.few,
+      (few_apart g t a).1,
       walked.within,
       walked.blank,
       walked_one i _ _ sp.value sp.front_len _ _ c.loop-child.area c.loop-child.top c.loop-child.invariant.7 (turn g t a)
@@ -114,7 +117,7 @@ pub invariant_of-mine : goal.invariant_of-mine
 invariant_of-mine g t c =
     let i = entered g t (goal.at.invariant_of-mine g t c).In_ok-kids in
     let sp = c.split_at_mut-mine.ensures in
-    record { taken = mine_positions i _ _ sp.value sp.front_len; few = mine_few i _ _ sp.value sp.front_len }
+    record { taken = mine_positions i _ _ sp.value sp.front_len }
 
 pub leave-requires-clause-lying : goal.leave-requires-clause-lying
 leave-requires-clause-lying g t c =

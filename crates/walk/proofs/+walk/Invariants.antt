@@ -11,7 +11,7 @@ use Rattle.walk.proofs.+walk.Given as goal
 abbrev pub decreases-walk : goal.decreases-walk
 decreases-walk g l = end_at (records_of l.named.frame.schema) l.visit.node - l.visit.node
 
--- the rows that are left are positions of the tape, and between two children what is left gives what the whole gives
+-- the rows that are left are few positions of the tape, and between two children what is left gives what the whole gives
 abbrev pub invariant-loop-child : goal.invariant-loop-child
 invariant-loop-child g l =
     (goal.iterator-loop-child g).can_next l.child-iterator

@@ -15,7 +15,7 @@ use Rattle.shelf.proofs.Shelf.cell.Goals as goal
 
 pub returns-in_err-content : goal.returns-in_err-content
 returns-in_err-content g c = λ root size held h.
-    let st = setup_in c.args.self.now root size in
+    let st = setup_in g.X.Leaf.meaning c.args.self.now root size in
     let there : c.args.node < record_count (records_of c.args.self.now.schema) = omega (arith, c.len-else-batch-len.ensures.said) in
     let p = err_from_is_err_and c.from_residual.result c.from_residual.ensures.1 in
     ap answer_of (p.1 ∙ ap Err p.2)
@@ -28,7 +28,7 @@ returns-in_err-content g c = λ root size held h.
 
 pub returns : goal.returns
 returns g c = λ root size held h.
-    let st = setup_in c.args.self.now root size in
+    let st = setup_in g.X.Leaf.meaning c.args.self.now root size in
     let there : c.args.node < record_count (records_of c.args.self.now.schema) = omega (arith, c.len-else-batch-len.ensures.said) in
     ap got c.into.ensures
     ∙ ap (λ (m : Got Batch.Cell). then m (λ x. got (triple x)))

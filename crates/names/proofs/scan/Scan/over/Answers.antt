@@ -1,18 +1,12 @@
-use Rattle.std.proofs.Common.{[], ◌∷◌, ◌++◌, length, ap, ◌∙◌, arith}
-use Rattle.octets.proofs.Pieces.{length-between}
-use Rattle.names.proofs.Fields.{between_next, row_made}
+use Rattle.std.proofs.Common.{◌≡◌, refl, ◌∙◌, arith, length-set}
+use Rattle.schema.specs.Layout.{record_count}
+use Rattle.names.proofs.Fields.{row_more, row_read}
 use Rattle.names.proofs.scan.Scan.over.Goals as goal
 
-pub push-requires : goal.push-requires
-push-requires c = omega (arith, ap length c.loop-head.invariant, length-between 0 c.loop-head.head)
-
-pub loop-head-preserved : goal.loop-head-preserved
-loop-head-preserved c = c.push.ensures.items ∙ ap (λ x. x ++ (c.loop-head.head ∷ [])) c.loop-head.invariant ∙ between_next c.loop-head.head
+pub loop-place-preserved : goal.loop-place-preserved
+loop-place-preserved c =
+    let long = c.loop-place.invariant.0 in
+    (length-set c.loop-place.heads c.loop-place.place _ ∙ long, row_more c.loop-place.heads c.loop-place.place _ (omega arith) (omega (arith, long)) c.loop-place.invariant.1)
 
 pub invariant_of-result : goal.invariant_of-result
-invariant_of-result c =
-    let made = row_made c.loop-head.invariant (omega arith) c.requires.few c.requires.inside in
-    record { few = made.few; readable = made.readable }
-
-pub returns-clause-count : goal.returns-clause-count
-returns-clause-count c = (row_made c.loop-head.invariant (omega arith) c.requires.few c.requires.inside).count
+invariant_of-result c = record { few = omega arith; long = c.loop-place.invariant.0; readable = row_read c.loop-place.heads (let e : c.loop-place.place ≡ record_count c.args.records.now = omega arith in rw (← e) c.loop-place.invariant.1) (omega (arith, c.loop-place.invariant.0)) refl c.requires.inside }
