@@ -1,8 +1,48 @@
 // Calls on a new shelf, from raw bytes.
 #![tactic(auto)]
 
+use entry::StructRows;
+use entry::naming::StructRowsOf;
+use names::Scan;
+use rows::{Entered, Reading, StructRows as NamedRows};
+use schema::Schema;
+use slip::Fault;
+
+// Reads the rows of structs in a way of its own: by a scan, however many names there are.
+#[derive(Drop)]
+pub struct ByScan<'a> {
+    schema: Schema<'a>,
+}
+
+impl StructRows for ByScan<'_> {
+    ghost schema = { λ s. s.schema };
+
+    fn enter_struct(
+        &self,
+        fields: usize,
+        reading: Reading<'_>,
+        work: &mut [u32],
+        area: &mut [u8],
+        top: usize,
+    ) -> Result<Entered, Fault> {
+        let scan = Scan::of(self.schema, reading.node);
+        let named = NamedRows {
+            index: &scan,
+            fields,
+        };
+        rows::enter::<_, i32>(&named, reading, work, area, top)
+    }
+}
+
+impl<'a> StructRowsOf<'a> for ByScan<'a> {
+    fn reader_of(schema: Schema<'a>) -> ByScan<'a> {
+        ByScan { schema }
+    }
+}
+
 #[cfg(test)]
 mod tests {
+    use crate::ByScan;
     use leaf::leaves::Null;
     use replay::{Answer, Call, TapeBytes, replay};
     use schema::Schema;
@@ -147,5 +187,35 @@ mod tests {
         );
         assert_eq!(rt; odd, Err(Fault::Full { node: 0 }));
         assert!(rt; page[0] == 7);
+    }
+
+    // Another reader of struct rows finds the same.
+    #[test]
+    fn another_reader(rt: HostRuntime) {
+        let mut page = [7u8; 96];
+        let mut work = [9u32; 16];
+        let mut answers = [Ok(Answer::Batch(0)); 2];
+        let calls = [
+            shelve(&[1]),
+            Call::Cell {
+                batch: 0,
+                node: 1,
+                slot: 0,
+            },
+        ];
+        let r = replay::<Null, ByScan<'_>>(
+            &RECORDS,
+            b"a",
+            OFF,
+            &Null {},
+            &mut page,
+            &mut work,
+            &calls,
+            &mut answers,
+        );
+        assert!(rt; r.is_ok());
+        assert_eq!(rt; answers[0], Ok(Answer::Batch(0)));
+        assert_eq!(rt; answers[1], Ok(Answer::Cell(2, 72, 2)));
+        assert!(rt; page[72] == b'h' && page[73] == b'i');
     }
 }
