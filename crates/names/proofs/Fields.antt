@@ -53,7 +53,7 @@ read_from : {rs ns : List ℕ} (heads : List ℕ) (count : ℕ) → count ≤ le
 read_from {rs} {ns} heads count h all q l = subst (Readable rs ns) (get_or-take count heads q 0 l) (all q 0 (omega (arith, length-take-le count heads h)))
 
 -- how many children a struct has
-few_fields : {rs ns : List ℕ} {i : ℕ} {t : Node} → Held rs ns i t → letter_at rs i ≡ the "S" → (count_at rs i ≡ many (children_of t)) × (many (children_of t) ≤ 64)
+pub few_fields : {rs ns : List ℕ} {i : ℕ} {t : Node} → Held rs ns i t → letter_at rs i ≡ the "S" → (count_at rs i ≡ many (children_of t)) × (many (children_of t) ≤ 64)
 few_fields {t = t} h e =
     let w = held_written h in
     let n = counted t (sym w.letter ∙ e) (held_limited h) in
@@ -66,7 +66,7 @@ pub record Made (rs ns : List ℕ) (i : ℕ) (heads : List ℕ) (count : ℕ) : 
   pub counted : length (map (name_at rs ns) (take count heads)) ≡ count_at rs i
   pub named : (t : Node) → Held rs ns i t → map (name_at rs ns) (take count heads) ≡ names (children_of t)
 
-fields_made : {rs ns : List ℕ} {root : Node} {heads : List ℕ} {count : ℕ} (i : ℕ) → Opens rs ns root → i < record_count rs → letter_at rs i ≡ the "S" → count ≡ count_at rs i → length heads ≡ 64 → ((t : Node) → Held rs ns i t → take (many (children_of t)) heads ≡ numbers (children_of t)) → Made rs ns i heads count
+pub fields_made : {rs ns : List ℕ} {root : Node} {heads : List ℕ} {count : ℕ} (i : ℕ) → Opens rs ns root → i < record_count rs → letter_at rs i ≡ the "S" → count ≡ count_at rs i → count ≤ length heads → ((t : Node) → Held rs ns i t → take (many (children_of t)) heads ≡ numbers (children_of t)) → Made rs ns i heads count
 fields_made {rs} {ns} {root} {heads} {count} i o w e n long all =
     let h = held_at o i w in
     let f = few_fields h e in
@@ -74,8 +74,8 @@ fields_made {rs} {ns} {root} {heads} {count} i o w e n long all =
     let same : (t : Node) → Held rs ns i t → take count heads ≡ numbers (children_of t) = λ t k. ap (λ c. take c heads) (n ∙ (few_fields k e).0) ∙ all t k in
     record {
       few = few;
-      readable = read_from heads count (omega arith) (rw (same _ h) (chained (held_children h)).readable);
-      counted = length-map (take count heads) (name_at rs ns) ∙ length-take-le count heads (omega arith) ∙ n;
+      readable = read_from heads count long (rw (same _ h) (chained (held_children h)).readable);
+      counted = length-map (take count heads) (name_at rs ns) ∙ length-take-le count heads long ∙ n;
       named = λ t k. rw (same t k) (chained (held_children k)).same;
     }
 
@@ -113,7 +113,7 @@ module _ {rs ns : List ℕ} {root : Node} (i : ℕ) (o : Opens rs ns root) (w : 
   taken_made {heads} {count} none f long n =
       let ys : List ℕ = map (λ p. p.1) xs in
       let taken = (numbered s xs t y).taken in
-      fields_made i o w e n long (λ x h.
+      fields_made i o w e n (omega (arith, n, (few_fields (held_at o i w) e).0, (few_fields (held_at o i w) e).1, long)) (λ x h.
       let m : many (children_of x) ≡ length xs = sym (ended (held_children h) (enumerate_source s) (begins x h) ys (enumerate_source t) taken none) ∙ length-map xs (λ p. p.1) in
       ap (λ c. take c heads) m ∙ f ∙ sym (append-nil ys) ∙ ap (λ l. ys ++ l) (sym none) ∙ sym (yielded (enumerate_source s) ys (enumerate_source t) taken) ∙ begins x h)
 
@@ -125,7 +125,7 @@ heads_more heads xs {place} child head v e l h =
     ∙ ap (λ x. map (λ p. p.1) xs ++ (x ∷ [])) v ∙ sym (map-append (λ p. p.1) xs ((place, child) ∷ []))
 
 -- the records in a row
-between_next : (p : ℕ) → between 0 (p + 1) ≡ between 0 p ++ (p ∷ [])
+pub between_next : (p : ℕ) → between 0 (p + 1) ≡ between 0 p ++ (p ∷ [])
 between_next p = let e : 0 + p ≡ p = omega arith in between_more 0 p 1 ∙ rw e refl
 
 pub row_more : (heads : List ℕ) (place head : ℕ) → head ≡ place → place < length heads → take place heads ≡ between 0 place → take (place + 1) (set heads place head) ≡ between 0 (place + 1)

@@ -78,7 +78,7 @@ fn make<'a, X: Leaf, S: StructRowsOf<'a>>(
         } => {
             let tape = tape.open()?;
             let lent = lent.min(work.len());
-            Answer::Batch(shelf.shelve::<S>(tape, positions, &mut work[..lent])?)
+            Answer::Batch(shelf.shelve_standing::<S>(tape, positions, &mut work[..lent])?)
         }
         Call::Cell { batch, node, slot } => {
             let (kind, first, second) = shelf.cell(batch, node, slot)?;

@@ -47,7 +47,9 @@ mod tests {
     use replay::{Answer, Call, TapeBytes, replay};
     use schema::Schema;
     use schema::settings::Settings;
+    use shelf::Shelf;
     use slip::Fault;
+    use tape::Tape;
 
     // A root with one nullable text `a`.
     const RECORDS: [u8; 32] = [
@@ -217,5 +219,27 @@ mod tests {
         assert_eq!(rt; answers[0], Ok(Answer::Batch(0)));
         assert_eq!(rt; answers[1], Ok(Answer::Cell(2, 72, 2)));
         assert!(rt; page[72] == b'h' && page[73] == b'i');
+    }
+
+    // The first Shelve on a page.
+    fn first_shelve(page: &mut [u8]) -> Result<usize, Fault> {
+        let schema = Schema::open(&RECORDS, b"a")?;
+        let tape = Tape::open(&ELEMENTS, b"ahi", &OFFSETS)?;
+        let mut work = [9u32; 16];
+        let mut shelf = Shelf::new(page, schema, OFF, &Null {});
+        shelf.shelve::<Schema<'_>>(tape, &[1], &mut work)
+    }
+
+    // What is free of a page is cleared by Shelve, and a page that does not fit is refused as it is.
+    #[test]
+    fn a_page_that_is_not_clear(rt: HostRuntime) {
+        let mut page = [7u8; 96];
+        assert_eq!(rt; first_shelve(&mut page), Ok(0));
+        assert!(rt; page[64] == 0 && page[68] == 2);
+        assert!(rt; page[72] == b'h' && page[73] == b'i');
+        assert!(rt; page[74] == 0 && page[80] == 0 && page[95] == 0);
+        let mut odd = [7u8; 95];
+        assert_eq!(rt; first_shelve(&mut odd), Err(Fault::Full { node: 0 }));
+        assert!(rt; odd[0] == 7 && odd[94] == 7);
     }
 }

@@ -46,6 +46,13 @@ module _ {st : Setup} {schema : Schema} {bytes ends : List ℕ} {held : Held st}
   pub refuses : (s : Slip) → shelve st held t ps lent ≡ refuse s → Does st held schema bytes ends (Shelve t ps lent) (shelve st held t ps lent) (refuse s)
   refuses s e = record { answered = sym e; holds = subst (λ l. Holds st schema bytes ends l) (sym (after_refused s e)) h }
 
+  -- an entry that is no position is refused
+  pub refuses_bad : (s : Slip) → refuse s ≡ bad_position t 0 ps → Does st held schema bytes ends (Shelve t ps lent) (shelve st held t ps lent) (refuse s)
+  refuses_bad s e =
+      let full = is_full st held (length ps) lent in
+      let walked = walk st t (st.size - used st held) lent st.root (field_of st.root).nullable ps (32 * length (nodes st.root)) 0 in
+      refuses s (ap (λ (g : Got (Unit {0})). then g (λ _. cond full (refuse (slip 4 0 0)) (then walked (λ _. got (length held))))) (sym e))
+
   module _ (fine : bad_position t 0 ps ≡ got tt) (space : is_full st held (length ps) lent ≡ false) where
     free : ℕ
     free = st.size - used st held

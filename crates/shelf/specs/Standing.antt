@@ -1,5 +1,5 @@
 -- What a page holds, and what the calls on it promise.
-use Rattle.std.specs.Prelude.{◌≡◌, ℕ, ◌+◌, ◌-◌, ◌*◌, ◌%◌, ◌^◌, ◌<◌, ◌≤◌, false, cond, List, [], length, take, replicate, IfOk, IfErr, Ok, Err, Result, ◌==◌, ◌≢◌, slice_index}
+use Rattle.std.specs.Prelude.{◌≡◌, ℕ, ◌+◌, ◌-◌, ◌*◌, ◌%◌, ◌^◌, ◌<◌, ◌≤◌, false, cond, List, length, take, replicate, IfOk, IfErr, Ok, Err, Result, ◌==◌, ◌≢◌, slice_index}
 use Rattle.slip.specs.declared.Fault.{Fault}
 use Rattle.slip.specs.Slips.{Got, got, answer_of, slip, slip_of}
 use Rattle.octets.specs.Lists.{splice}

@@ -1,7 +1,7 @@
 // A shelf: a page of bytes that holds batches end to end.
 #![tactic(auto)]
 
-ghost use Rattle.std.specs.Prelude.{◌≡◌, ℕ, ◌+◌, ◌-◌, ◌*◌, ◌^◌, ◌<◌, ◌≤◌, [], length, replicate, Decides};
+ghost use Rattle.std.specs.Prelude.{◌≡◌, ℕ, ◌+◌, ◌-◌, ◌*◌, ◌^◌, ◌<◌, ◌≤◌, [], length, replicate, Decides, IfErr, IsTrue, IsFalse};
 ghost use Rattle.slip.specs.Slips.{answer_of, then, got};
 ghost use Rattle.tape.specs.Opened.{view_of};
 ghost use Rattle.schema.specs.Tree.{Node, kind_of};
@@ -136,9 +136,9 @@ pub struct Shelf<'p, 'a, X> {
 }
 
 impl<'p, 'a, X: Leaf> Shelf<'p, 'a, X> {
-    ghost use Rattle.shelf.specs.Shelves.{HoldsIn, Stands, OfHeld, DoesIn, Keeps};
+    ghost use Rattle.shelf.specs.Shelves.{HoldsIn, HoldsSwept, Stands, OfHeld, OfSwept, DoesIn, Keeps, Refused, Room, swept};
 
-    // A shelf on a cleared page, which holds nothing.
+    // A shelf on a page, which holds nothing. No byte is written: the page is to be clear, or the first Shelve clears it.
     pub fn new(
         page: &'p mut [u8],
         schema: Schema<'a>,
@@ -151,6 +151,7 @@ impl<'p, 'a, X: Leaf> Shelf<'p, 'a, X> {
         ensures settings { result.settings ≡ settings }
         ensures custom { result.custom ≡ custom.entry }
         ensures holds { (root : Node) → TreeOf schema.entry root → Fresh page.old → HoldsIn (setup_of settings (X.Leaf.meaning custom.now) root (length page.old)) result [] }
+        ensures swept { (root : Node) → TreeOf schema.entry root → Fits (length page.old) → HoldsSwept (setup_of settings (X.Leaf.meaning custom.now) root (length page.old)) result [] }
     {
         Shelf {
             page,
@@ -191,14 +192,16 @@ impl<'p, 'a, X: Leaf> Shelf<'p, 'a, X> {
 
     // How many bytes are free.
     fn free(&self) -> usize
-        ensures { OfHeld X.Leaf.meaning self.now (λ st held. result ≡ st.size - used st held) }
+        ensures value { result ≡ length self.now.page.now - start_in self.now.ends.items (length self.now.ends.items) }
+        ensures held { OfHeld X.Leaf.meaning self.now (λ st held. result ≡ st.size - used st held) }
     {
         self.page.len() - self.end()
     }
 
     // Whether positions, work list or batches are too many, or the records have no space.
     fn is_full(&self, positions: usize, lent: usize) -> bool
-        ensures { OfHeld X.Leaf.meaning self.now (λ st held. result ≡ is_full st held positions lent) }
+        ensures held { OfHeld X.Leaf.meaning self.now (λ st held. result ≡ is_full st held positions lent) }
+        ensures room { IsFalse result → Room self.now positions lent }
     {
         positions > 65_535
             || lent > 1 << 24
@@ -206,18 +209,37 @@ impl<'p, 'a, X: Leaf> Shelf<'p, 'a, X> {
             || self.free() < 32 * self.schema.len()
     }
 
-    // Adds a batch of the rows at some positions; the work list is left as it falls.
+    // Clears what is free of the page, and answers whether the page fits; one that does not is left as it is.
+    fn sweep(&mut self) -> bool
+        ensures fits { Decides result (Fits (length self.old.page.now)) }
+        ensures swept { IsTrue result → self.new.page.now ≡ swept self.old }
+        ensures left { IsFalse result → self.new.page.now ≡ self.old.page.now }
+        ensures batches { self.new.ends.items ≡ self.old.ends.items }
+        ensures keeps { Keeps self.old self.new }
+    {
+        let size = self.page.len();
+        if !fits(size) {
+            return false;
+        }
+        let end = self.end();
+        zero(&mut *self.page, end, size);
+        true
+    }
+
+    // Adds a batch of the rows at some positions, where what is free is clear; the work list is left as it falls.
     fn add<S: StructRowsOf<'a>>(
         &mut self,
         tape: Tape<'a>,
         positions: &[u32],
         work: &mut [u32],
     ) -> Result<usize, Fault>
-        requires { Stands X.Leaf.meaning self.old }
+        requires fine { got tt ≡ bad_position (view_of tape) 0 positions.now }
+        requires small { length self.old.page.now ≤ 2 ^ 24 }
+        requires swept { self.old.page.now ≡ swept self.old }
         ensures does { OfHeld X.Leaf.meaning self.old (λ st held. DoesIn st held self.new (Shelve (view_of tape.entry) positions.now (length work.old)) (shelve st held (view_of tape.entry) positions.now (length work.old)) (answer_of result)) }
+        ensures refused { IfErr result (λ _. (self.new.ends.items ≡ self.old.ends.items) × (self.new.page.now ≡ self.old.page.now)) }
         ensures keeps { Keeps self.old self.new }
     {
-        check_positions(tape, positions)?;
         if self.is_full(positions.len(), work.len()) {
             return Err(Fault::Full { node: 0 });
         }
@@ -238,8 +260,31 @@ impl<'p, 'a, X: Leaf> Shelf<'p, 'a, X> {
         Ok(number)
     }
 
-    // Adds a batch of the rows at some positions, and answers its number. The work list holds zeros afterwards.
+    // Adds a batch of the rows at some positions, and answers its number. What is free of the page is cleared first, so it
+    // may hold anything; a page that does not fit is full. The work list holds zeros afterwards.
     pub fn shelve<S: StructRowsOf<'a>>(
+        &mut self,
+        tape: Tape<'a>,
+        positions: &[u32],
+        work: &mut [u32],
+    ) -> Result<usize, Fault>
+        ensures does { OfHeld X.Leaf.meaning self.old (λ st held. DoesIn st held self.new (Shelve (view_of tape.entry) positions.now (length work.old)) (shelve st held (view_of tape.entry) positions.now (length work.old)) (answer_of result)) }
+        ensures swept { OfSwept X.Leaf.meaning self.old (λ st held. DoesIn st held self.new (Shelve (view_of tape.entry) positions.now (length work.old)) (shelve st held (view_of tape.entry) positions.now (length work.old)) (answer_of result)) }
+        ensures refused { IfErr result (λ _. Refused self.old self.new) }
+        ensures zeroed { work.new ≡ replicate (length work.old) 0 }
+        ensures keeps { Keeps self.old self.new }
+    {
+        let guard = Lent { words: work };
+        let fits = self.sweep();
+        check_positions(tape, positions)?;
+        if !fits {
+            return Err(Fault::Full { node: 0 });
+        }
+        self.add::<S>(tape, positions, &mut *guard.words)
+    }
+
+    // `shelve` for a shelf that stands: what is free of its page is clear, and is not cleared again.
+    pub fn shelve_standing<S: StructRowsOf<'a>>(
         &mut self,
         tape: Tape<'a>,
         positions: &[u32],
@@ -251,6 +296,7 @@ impl<'p, 'a, X: Leaf> Shelf<'p, 'a, X> {
         ensures keeps { Keeps self.old self.new }
     {
         let guard = Lent { words: work };
+        check_positions(tape, positions)?;
         self.add::<S>(tape, positions, &mut *guard.words)
     }
 

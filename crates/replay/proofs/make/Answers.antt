@@ -8,25 +8,25 @@ use Rattle.replay.specs.Replay.{said, view_in, Asks, ShelveFrom}
 use Rattle.replay.proofs.Replays.{shelved, lent_is, cell_said, cell_refused}
 use Rattle.replay.proofs.make.Goals as goal
 
-pub returns-in_err-shelve-in-Shelve-clause-makes : goal.returns-in_err-shelve-in-Shelve-clause-makes
-returns-in_err-shelve-in-Shelve-clause-makes g c = λ root size held h.
+pub returns-in_err-shelve_standing-in-Shelve-clause-makes : goal.returns-in_err-shelve_standing-in-Shelve-clause-makes
+returns-in_err-shelve_standing-in-Shelve-clause-makes g c = λ root size held h.
     let line = c.in-Shelve in
     let work = length c.args.work.now in
-    let q = shelved (setup_in g.X.Leaf.meaning c.args.shelf.now root size) held c.shelve.new.self (view_in line.tape) line.positions.now (length (take c.min-lent.result c.args.work.now)) (view_of c.in_ok-tape-in-Shelve.tape) (refuse (slip_of c.in_err-shelve-in-Shelve.field-0.0))
-    c.in_ok-tape-in-Shelve.ensures.0 c.in_ok-tape-in-Shelve.ensures.1 (c.in_err-shelve-in-Shelve.ensures.does root size held h) in
-    let p = err_from_is_err_and c.from_residual-in_err-shelve-in-Shelve.result c.from_residual-in_err-shelve-in-Shelve.ensures.1 in
+    let q = shelved (setup_in g.X.Leaf.meaning c.args.shelf.now root size) held c.shelve_standing.new.self (view_in line.tape) line.positions.now (length (take c.min-lent.result c.args.work.now)) (view_of c.in_ok-tape-in-Shelve.tape) (refuse (slip_of c.in_err-shelve_standing-in-Shelve.field-0.0))
+    c.in_ok-tape-in-Shelve.ensures.0 c.in_ok-tape-in-Shelve.ensures.1 (c.in_err-shelve_standing-in-Shelve.ensures.does root size held h) in
+    let p = err_from_is_err_and c.from_residual-in_err-shelve_standing-in-Shelve.result c.from_residual-in_err-shelve_standing-in-Shelve.ensures.1 in
     let lent = length-take c.min-lent.result c.args.work.now ∙ lent_is line.lent work c.min-lent.result c.min-lent.ensures in (
       q.0,
       subst (λ l. Asks work l q.0) (sym line.is) (subst (λ n. ShelveFrom (view_in line.tape) line.positions.now n q.0) lent q.1),
       record { answered = ap said (p.1 ∙ ap Err p.2) ∙ q.2.answered; holds = q.2.holds },
     )
 
-pub returns-in_ok-shelve-in-Shelve-clause-makes : goal.returns-in_ok-shelve-in-Shelve-clause-makes
-returns-in_ok-shelve-in-Shelve-clause-makes g c = λ root size held h.
+pub returns-in_ok-shelve_standing-in-Shelve-clause-makes : goal.returns-in_ok-shelve_standing-in-Shelve-clause-makes
+returns-in_ok-shelve_standing-in-Shelve-clause-makes g c = λ root size held h.
     let line = c.in-Shelve in
     let work = length c.args.work.now in
-    let q = shelved (setup_in g.X.Leaf.meaning c.args.shelf.now root size) held c.shelve.new.self (view_in line.tape) line.positions.now (length (take c.min-lent.result c.args.work.now)) (view_of c.in_ok-tape-in-Shelve.tape) (got c.in_ok-shelve-in-Shelve.field-0)
-    c.in_ok-tape-in-Shelve.ensures.0 c.in_ok-tape-in-Shelve.ensures.1 (c.in_ok-shelve-in-Shelve.ensures.does root size held h) in
+    let q = shelved (setup_in g.X.Leaf.meaning c.args.shelf.now root size) held c.shelve_standing.new.self (view_in line.tape) line.positions.now (length (take c.min-lent.result c.args.work.now)) (view_of c.in_ok-tape-in-Shelve.tape) (got c.in_ok-shelve_standing-in-Shelve.field-0)
+    c.in_ok-tape-in-Shelve.ensures.0 c.in_ok-tape-in-Shelve.ensures.1 (c.in_ok-shelve_standing-in-Shelve.ensures.does root size held h) in
     let lent = length-take c.min-lent.result c.args.work.now ∙ lent_is line.lent work c.min-lent.result c.min-lent.ensures in
     (q.0, subst (λ l. Asks work l q.0) (sym line.is) (subst (λ n. ShelveFrom (view_in line.tape) line.positions.now n q.0) lent q.1), q.2)
 

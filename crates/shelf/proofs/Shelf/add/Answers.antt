@@ -1,73 +1,98 @@
-use Rattle.std.proofs.Common.{ℕ, ◌+◌, ◌-◌, ◌<◌, ◌≤◌, [], ◌∷◌, length, Err, sym, ap, ◌∙◌, subst, arith, rules, length-append}
+use Rattle.std.proofs.Common.{◌≡◌, ℕ, ◌+◌, ◌-◌, ◌<◌, ◌≤◌, [], ◌∷◌, length, replicate, Err, IfErr, refl, sym, ap, ◌∙◌, subst, arith, rules, length-append, length-drop}
 use borrow.Rule.Slice.PartMut.{put_mid}
+use borrow.Rule.Slice.PartAt.{part_to_end}
 use Rattle.std.proofs.lemmas.Result.{err_from_is_err_and}
 use Rattle.slip.specs.Slips.{answer_of, got}
+use Rattle.octets.specs.Lists.{splice}
 use Rattle.tape.specs.Opened.{view_of}
 use Rattle.laws.specs.Calls.{Shelve, after}
 use Rattle.shelf.specs.Standing.{start_in, Holds}
 use Rattle.shelf.specs.Shelves.{setup_in}
 use Rattle.shelf.proofs.Positions.{none_bad}
-use Rattle.shelf.proofs.Adding.{adds_none, adds}
-use Rattle.shelf.proofs.Holding.{starts_inside, starts_rise}
-use Rattle.shelf.proofs.Shelving.{may_write, end_small, holds_after_none, holds_after}
+use Rattle.shelf.proofs.Adding.{free_part, adds_none, adds}
+use Rattle.shelf.proofs.Sweeping.{free_clear, put_nothing, end_within, more_inside, more_rising}
 use Rattle.shelf.proofs.Shelf.add.Goals as goal
 
 pub invariant_of-rows : goal.invariant_of-rows
-invariant_of-rows g c = record { taken = none_bad (view_of c.args.tape) 0 c.args.positions.now (sym c.in_ok-check_positions.ensures) }
+invariant_of-rows g c = record { taken = none_bad (view_of c.args.tape) 0 c.args.positions.now (sym c.requires.fine) }
 
 pub write-requires : goal.write-requires
 write-requires g c =
-    let t = view_of c.args.tape in
-    let fine = sym c.in_ok-check_positions.ensures in
-    let w = may_write t c.args.positions.now c.requires fine (λ root size held h. sym (c.is_full.ensures root size held h) ∙ c.if-is_full.false) c.end-from.ensures.value in
-    record { few = omega (arith, w.0); lent = w.1; small = w.2; records = w.3; free = w.4 }
+    let room = c.is_full.ensures.room c.if-is_full.false in
+    let bytes = c.args.self.now.page.now in
+    let from = c.end-from.result in
+    let long : length (free_part bytes from) ≡ length bytes - from = ap length (part_to_end bytes from) ∙ length-drop from bytes in
+    let swept = subst (λ n. bytes ≡ splice bytes n (replicate (length bytes - n) 0)) (sym c.end-from.ensures.value) c.requires.swept in
+    record {
+      few = omega (arith, room.positions_few);
+      lent = room.lent_few;
+      small = omega (arith, long, c.requires.small);
+      records = omega (arith, long, room.records, c.end-from.ensures.value);
+      free = free_clear bytes from c.end-from.ensures.within swept;
+    }
 
 pub invariant_of-self : goal.invariant_of-self
 invariant_of-self g c =
-    let h = holds_after_none _ _ c.requires (sym c.in_ok-check_positions.ensures) (λ root size held h. sym (c.is_full.ensures root size held h) ∙ c.if-is_full.false) c.end-from.ensures.value c.in_err-size.ensures in
-    record { few = c.args.self.now.few; inside = starts_inside h; rising = starts_rise h }
+    let self = c.args.self.now in
+    let o = self.schema.opened in
+    let same = put_nothing self.page.now c.end-from.result c.end-from.ensures.within (c.in_err-size.ensures o.0 0 o.1).unwritten in
+    record { few = self.few; inside = λ i l. omega (arith, self.inside i l, ap length same); rising = self.rising }
 
 pub returns-in_err-size-clause-does : goal.returns-in_err-size-clause-does
 returns-in_err-size-clause-does g c = λ root size held h.
-    let p = err_from_is_err_and c.from_residual-in_err-size.result c.from_residual-in_err-size.ensures.1 in
-    let d = adds_none h (view_of c.args.tape) c.args.positions.now (length c.args.work.now) (sym c.in_ok-check_positions.ensures) (sym (c.is_full.ensures root size held h) ∙ c.if-is_full.false)
+    let p = err_from_is_err_and c.from_residual.result c.from_residual.ensures.1 in
+    let d = adds_none h (view_of c.args.tape) c.args.positions.now (length c.args.work.now) (sym c.requires.fine) (sym (c.is_full.ensures.held root size held h) ∙ c.if-is_full.false)
     c.end-from.result c.end-from.ensures.value c.write.new.area c.in_err-size.field-0.0 (c.in_err-size.ensures root size h.tree) in
     record { answered = ap (answer_of {A = ℕ}) (p.1 ∙ ap Err p.2) ∙ d.answered; holds = d.holds }
 
 pub overflow_add-from : goal.overflow_add-from
 overflow_add-from g c =
-    let n = end_small _ _ c.requires (sym c.in_ok-check_positions.ensures) (λ root size held h. sym (c.is_full.ensures root size held h) ∙ c.if-is_full.false) c.end-from.ensures.value c.in_ok-size.ensures c.write.auto.area in
-    let few = n.0 in
+    let self = c.args.self.now in
+    let few = end_within self.page.now self.schema c.end-from.ensures.within c.requires.small self.schema.opened (λ root o. c.in_ok-size.ensures root 0 o) in
     search rules
 
 pub overflow_cast-from : goal.overflow_cast-from
 overflow_cast-from g c =
-    let n = end_small _ _ c.requires (sym c.in_ok-check_positions.ensures) (λ root size held h. sym (c.is_full.ensures root size held h) ∙ c.if-is_full.false) c.end-from.ensures.value c.in_ok-size.ensures c.write.auto.area in
-    let few = n.0 in
+    let self = c.args.self.now in
+    let few = end_within self.page.now self.schema c.end-from.ensures.within c.requires.small self.schema.opened (λ root o. c.in_ok-size.ensures root 0 o) in
     search rules
 
 pub push-requires : goal.push-requires
 push-requires g c =
-    let n = end_small _ _ c.requires (sym c.in_ok-check_positions.ensures) (λ root size held h. sym (c.is_full.ensures root size held h) ∙ c.if-is_full.false) c.end-from.ensures.value c.in_ok-size.ensures c.write.auto.area in
-    (omega arith, n.1)
+    let self = c.args.self.now in
+    let few = end_within self.page.now self.schema c.end-from.ensures.within c.requires.small self.schema.opened (λ root o. c.in_ok-size.ensures root 0 o) in
+    (omega arith, (c.is_full.ensures.room c.if-is_full.false).another)
 
 pub invariant_of-self-2 : goal.invariant_of-self-2
 invariant_of-self-2 g c =
-    let h = holds_after _ _ c.requires (sym c.in_ok-check_positions.ensures) (λ root size held h. sym (c.is_full.ensures root size held h) ∙ c.if-is_full.false) c.end-from.ensures.value c.in_ok-size.ensures c.write.auto.area in
-    let n = end_small _ _ c.requires (sym c.in_ok-check_positions.ensures) (λ root size held h. sym (c.is_full.ensures root size held h) ∙ c.if-is_full.false) c.end-from.ensures.value c.in_ok-size.ensures c.write.auto.area in
+    let self = c.args.self.now in
+    let from = c.end-from.result in
+    let end = from + c.in_ok-size.size in
+    let page = put_mid from (length self.page.now - from) self.page.now c.write.new.area in
+    let room = c.is_full.ensures.room c.if-is_full.false in
+    let n = end_within self.page.now self.schema c.end-from.ensures.within c.requires.small self.schema.opened (λ root o. c.in_ok-size.ensures root 0 o) in
+    let long : length page ≡ length self.page.now = omega arith in
     record {
-      few = omega (arith, ap length c.push.ensures.items ∙ length-append c.args.self.now.ends.items ((c.end-from.result + c.in_ok-size.size) ∷ []), n.1);
-      inside = subst (λ es. (i : ℕ) → i ≤ length es → start_in es i ≤ length (put_mid c.end-from.result (length c.args.self.now.page.now - c.end-from.result) c.args.self.now.page.now c.write.new.area)) (sym c.push.ensures.items) (starts_inside h);
-      rising = subst (λ es. (i : ℕ) → i < length es → start_in es i ≤ start_in es (i + 1)) (sym c.push.ensures.items) (starts_rise h);
+      few = omega (arith, ap length c.push.ensures.items ∙ length-append self.ends.items (end ∷ []), room.another);
+      inside = subst (λ es. (i : ℕ) → i ≤ length es → start_in es i ≤ length page) (sym c.push.ensures.items) (more_inside self.ends.items end (omega (arith, n.0, long)) (λ i l. omega (arith, self.inside i l, long)));
+      rising = subst (λ es. (i : ℕ) → i < length es → start_in es i ≤ start_in es (i + 1)) (sym c.push.ensures.items) (more_rising self.ends.items end (omega (arith, c.end-from.ensures.value)) self.rising);
     }
 
 pub returns-clause-does : goal.returns-clause-does
 returns-clause-does g c = λ root size held h.
     let st = setup_in g.X.Leaf.meaning c.args.self.now root size in
     let call = Shelve (view_of c.args.tape) c.args.positions.now (length c.args.work.now) in
-    let d = adds h (view_of c.args.tape) c.args.positions.now (length c.args.work.now) (sym c.in_ok-check_positions.ensures) (sym (c.is_full.ensures root size held h) ∙ c.if-is_full.false)
+    let d = adds h (view_of c.args.tape) c.args.positions.now (length c.args.work.now) (sym c.requires.fine) (sym (c.is_full.ensures.held root size held h) ∙ c.if-is_full.false)
     c.end-from.result c.end-from.ensures.value c.write.new.area c.in_ok-size.size (c.in_ok-size.ensures root size h.tree) c.write.auto.area in
     record {
       answered = ap got c.len-number.ensures.value ∙ d.answered;
       holds = subst (λ es. Holds st c.args.self.now.schema (put_mid c.end-from.result (length c.args.self.now.page.now - c.end-from.result) c.args.self.now.page.now c.write.new.area) es (after st held call)) (sym c.push.ensures.items) d.holds;
     }
+
+pub returns-in_err-size-clause-refused : goal.returns-in_err-size-clause-refused
+returns-in_err-size-clause-refused g c =
+    let self = c.args.self.now in
+    let o = self.schema.opened in
+    let p = err_from_is_err_and c.from_residual.result c.from_residual.ensures.1 in
+    subst (λ r. IfErr r (λ _. (self.ends.items ≡ self.ends.items) × (put_mid c.end-from.result (length self.page.now - c.end-from.result) self.page.now c.write.new.area ≡ self.page.now))) (sym p.1)
+    (refl, put_nothing self.page.now c.end-from.result c.end-from.ensures.within (c.in_err-size.ensures o.0 0 o.1).unwritten)

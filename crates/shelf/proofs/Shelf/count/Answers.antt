@@ -2,4 +2,4 @@ use Rattle.std.proofs.Common.{◌∙◌, ap₂}
 use Rattle.shelf.proofs.Shelf.count.Goals as goal
 
 pub returns : goal.returns
-returns g c = λ root size held h. ap₂ (λ a b. (a, b)) (c.len.ensures.value ∙ h.many) (c.free.ensures root size held h)
+returns g c = λ root size held h. ap₂ (λ a b. (a, b)) (c.len.ensures.value ∙ h.many) (c.free.ensures.held root size held h)
