@@ -45,11 +45,13 @@ mod tests {
     use crate::ByScan;
     use leaf::leaves::Null;
     use replay::{Answer, Call, TapeBytes, replay};
+    use rows::{MapRows, Reading, RowKind};
     use schema::Schema;
     use schema::settings::Settings;
     use shelf::Shelf;
     use slip::Fault;
     use tape::Tape;
+    use tape::rows::Rows;
 
     // A root with one nullable text `a`.
     const RECORDS: [u8; 32] = [
@@ -241,5 +243,37 @@ mod tests {
         let mut odd = [7u8; 95];
         assert_eq!(rt; first_shelve(&mut odd), Err(Fault::Full { node: 0 }));
         assert!(rt; odd[0] == 7 && odd[94] == 7);
+    }
+
+    // Counts a row of a map alone, for a reading of no rows, and puts its names and values.
+    fn map_row(p: u32, work: &mut [u32]) -> Result<(usize, usize), Fault> {
+        let tape = Tape::open(&ELEMENTS, b"ahi", &OFFSETS)?;
+        if !tape.is_position(p) || !tape.is_at(p, '{') {
+            return Err(Fault::BadPosition { index: 0 });
+        }
+        let rows = Rows {
+            tape,
+            positions: &[],
+        };
+        let reading = Reading {
+            rows,
+            settings: OFF,
+            node: 0,
+            in_force: false,
+        };
+        let items = MapRows.count_alone(reading, p)?;
+        if 2 * items > work.len() {
+            return Err(Fault::Full { node: 0 });
+        }
+        let put = MapRows.put_alone(reading, p, work, items, 0);
+        Ok((items, put))
+    }
+
+    #[test]
+    fn a_row_alone(rt: HostRuntime) {
+        let mut work = [9u32; 3];
+        assert_eq!(rt; map_row(1, &mut work), Ok((1, 1)));
+        assert_eq!(rt; work, [2, 3, 9]);
+        assert_eq!(rt; map_row(2, &mut work), Err(Fault::BadPosition { index: 0 }));
     }
 }

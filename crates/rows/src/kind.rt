@@ -48,6 +48,7 @@ pub trait RowKind {
     // How many items the row at `p`, which begins as it should, has in the children, or why it is refused.
     fn count(&self, reading: Reading<'_>, p: u32) -> Result<usize, Fault>
         requires ready { ready self.now }
+        requires few { length reading.rows.positions.now ≤ 2 ^ 24 }
         requires position { is_position (view_of reading.rows.tape) p ≡ true }
         requires begun { is_at (view_of reading.rows.tape) (letter reading.settings (branch self.now)) p ≡ true }
         ensures said { answer_of result ≡ then (row_in reading.entry (branch self.now) (children self.now) p) (λ o. got (length (taken (branch self.now) (zeros (children self.now)) o))) }
@@ -56,6 +57,7 @@ pub trait RowKind {
     // Writes the positions that the row at `p`, which begins as it should, gives to the children, from slot `at` of each on, and counts its items.
     fn put(&self, reading: Reading<'_>, p: u32, work: &mut [u32], stride: usize, at: usize) -> usize
         requires ready { ready self.now }
+        requires few { length reading.rows.positions.now ≤ 2 ^ 24 }
         requires position { is_position (view_of reading.rows.tape) p ≡ true }
         requires begun { is_at (view_of reading.rows.tape) (letter reading.settings (branch self.now)) p ≡ true }
         requires accepted { is_got (row_in reading (branch self.now) (children self.now) p) ≡ true }
@@ -77,6 +79,39 @@ pub trait RowKind {
         requires room { at + hides (branch self.now) ≤ stride }
         requires lent { many (children self.now) * stride ≤ length work.old }
         ensures { Filled (many (children self.now)) stride at (replicate (hides (branch self.now)) (zeros (children self.now))) work.old work.new };
+
+    // `count` of the row alone, for a reading of however many rows.
+    fn count_alone(&self, reading: Reading<'_>, p: u32) -> Result<usize, Fault>
+        requires ready { ready self.now }
+        requires position { is_position (view_of reading.rows.tape) p ≡ true }
+        requires begun { is_at (view_of reading.rows.tape) (letter reading.settings (branch self.now)) p ≡ true }
+        ensures said { answer_of result ≡ then (row_in reading.entry (branch self.now) (children self.now) p) (λ o. got (length (taken (branch self.now) (zeros (children self.now)) o))) }
+        ensures few { IfOk result (λ n. (n ≤ 2 ^ 24) × (many (children self.now) ≡ 0 → n ≤ 1)) }
+    {
+        self.count(reading.without_rows(), p)
+    }
+
+    // `put` of the row alone, for a reading of however many rows.
+    fn put_alone(
+        &self,
+        reading: Reading<'_>,
+        p: u32,
+        work: &mut [u32],
+        stride: usize,
+        at: usize,
+    ) -> usize
+        requires ready { ready self.now }
+        requires position { is_position (view_of reading.rows.tape) p ≡ true }
+        requires begun { is_at (view_of reading.rows.tape) (letter reading.settings (branch self.now)) p ≡ true }
+        requires accepted { is_got (row_in reading (branch self.now) (children self.now) p) ≡ true }
+        requires room { at + length (items_in reading (branch self.now) (children self.now) p) ≤ stride }
+        requires lent { many (children self.now) * stride ≤ length work.old }
+        ensures count { result ≡ length (items_in reading.entry (branch self.now) (children self.now) p) }
+        ensures filled { Filled (many (children self.now)) stride at (items_in reading.entry (branch self.now) (children self.now) p) work.old work.new }
+        ensures positions { Positions (view_of reading.entry.rows.tape) (items_in reading.entry (branch self.now) (children self.now) p) }
+    {
+        self.put(reading.without_rows(), p, work, stride, at)
+    }
 }
 
 // Whether the row at `p` begins as it should. One that does not is a null row, where one may stand.
@@ -100,6 +135,7 @@ fn begins(reading: Reading<'_>, bracket: char, p: u32) -> Result<bool, Fault>
 // What the row at `p` is, or why it is refused.
 pub(crate) fn check_row<K: RowKind>(kind: &K, reading: Reading<'_>, p: u32) -> Result<Row, Fault>
     requires ready { K.ready kind.now }
+    requires few { length reading.rows.positions.now ≤ 2 ^ 24 }
     requires position { is_position (view_of reading.rows.tape) p ≡ true }
     ensures said { answer_of result ≡ then (row_in reading.entry (K.branch kind.now) (K.children kind.now) p) (λ o. got (row_size (K.branch kind.now) (K.children kind.now) o)) }
     ensures few { IfOk result (λ row. (row.items ≤ 2 ^ 24) × (many (K.children kind.now) ≡ 0 → row.items ≤ 1)) }
@@ -122,6 +158,7 @@ pub(crate) fn fill_row<K: RowKind>(
     at: usize,
 ) -> Row
     requires ready { K.ready kind.now }
+    requires few { length reading.rows.positions.now ≤ 2 ^ 24 }
     requires position { is_position (view_of reading.rows.tape) p ≡ true }
     requires accepted { is_got (row_in reading (K.branch kind.now) (K.children kind.now) p) ≡ true }
     requires room { at + length (items_in reading (K.branch kind.now) (K.children kind.now) p) ≤ stride }

@@ -51,6 +51,7 @@ pub(crate) fn fill_rows<K: RowKind, O: OffsetSize>(
     out: &mut [u8],
 )
     requires ready { K.ready kind.now }
+    requires few { length reading.rows.positions.now ≤ 2 ^ 24 }
     requires accepted { is_got (each (row_in reading (K.branch kind.now) (K.children kind.now)) reading.rows.positions.now) ≡ true }
     requires all { length (joined (map (items_in reading (K.branch kind.now) (K.children kind.now)) reading.rows.positions.now)) ≡ stride }
     requires lent { many (K.children kind.now) * stride ≤ length work.old }

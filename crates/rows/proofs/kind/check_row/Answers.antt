@@ -27,7 +27,7 @@ pub count-requires : goal.count-requires
 count-requires g c =
     let r = c.args.reading in
     let e = begins_bracket r c.bracket.result c.args.p (sym c.in_ok-begins.ensures ∙ ap got c.if-branch.true) in
-    record { ready = c.requires.ready; position = c.requires.position; begun = ap (λ x. is_at (view_of r.rows.tape) x c.args.p) (sym c.bracket.ensures) ∙ e }
+    record { ready = c.requires.ready; few = c.requires.few; position = c.requires.position; begun = ap (λ x. is_at (view_of r.rows.tape) x c.args.p) (sym c.bracket.ensures) ∙ e }
 
 pub returns-in_err-items : goal.returns-in_err-items
 returns-in_err-items g c =

@@ -16,6 +16,7 @@ pub put-items-requires : goal.put-items-requires
 put-items-requires g c =
     record {
       ready = c.requires.ready;
+      few = c.requires.few;
       position = c.requires.position;
       begun = ap (λ x. is_at (view_of c.args.reading.rows.tape) x c.args.p) (sym c.bracket-bracket.ensures) ∙ sym c.is_at.ensures ∙ c.if-is_at.true;
       accepted = c.requires.accepted;

@@ -84,6 +84,7 @@ fill_rows-requires g c =
     let lent : many cs * n.items ≤ length c.args.work.now = omega (arith, there.1, ap (λ k. k * n.items) c.kids-kids.ensures.many) in
     record {
       ready = c.requires.ready;
+      few = c.requires.few;
       accepted = rd.accepted_all;
       all = rd.items;
       lent = lent;

@@ -35,6 +35,7 @@ fill_row-row-requires g c =
     let G = items_in c.args.reading b cs in
     record {
       ready = c.requires.ready;
+      few = c.requires.few;
       position = c.args.reading.rows.taken i h;
       accepted = all_got (row_in c.args.reading b cs) ps c.requires.accepted i h;
       room = omega (arith, gathered-room G ps (i + 1), ap length (gathered_more G ps i h), length-append (gathered G ps i) (G (get_or ps i 0)), c.loop-slot.invariant.0, c.requires.all);
