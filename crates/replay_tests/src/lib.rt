@@ -245,6 +245,33 @@ mod tests {
         assert!(rt; odd[0] == 7 && odd[94] == 7);
     }
 
+    // Shelves twice, releases, and shelves again; the answers, and the free bytes after each.
+    fn shelve_again(page: &mut [u8]) -> Result<[usize; 8], Fault> {
+        let schema = Schema::open(&RECORDS, b"a")?;
+        let tape = Tape::open(&ELEMENTS, b"ahi", &OFFSETS)?;
+        let mut work = [9u32; 16];
+        let mut shelf = Shelf::new(page, schema, OFF, &Null {});
+        let mut seen = [0; 8];
+        seen[0] = shelf.shelve::<Schema<'_>>(tape, &[1], &mut work)?;
+        seen[1] = shelf.count().1;
+        seen[2] = shelf.shelve::<Schema<'_>>(tape, &[1], &mut work)?;
+        seen[3] = shelf.count().1;
+        seen[4] = shelf.release()?;
+        seen[5] = shelf.count().1;
+        seen[6] = shelf.shelve::<Schema<'_>>(tape, &[1], &mut work)?;
+        seen[7] = shelf.count().1;
+        Ok(seen)
+    }
+
+    #[test]
+    fn more_on_a_page_that_is_not_clear(rt: HostRuntime) {
+        let mut page = [7u8; 176];
+        assert_eq!(rt; shelve_again(&mut page), Ok([0, 96, 1, 16, 1, 96, 1, 16]));
+        assert!(rt; page[72] == b'h' && page[73] == b'i');
+        assert!(rt; page[152] == b'h' && page[153] == b'i');
+        assert!(rt; page[154] == 0 && page[160] == 0 && page[175] == 0);
+    }
+
     // Counts a row of a map alone, for a reading of no rows, and puts its names and values.
     fn map_row(p: u32, work: &mut [u32]) -> Result<(usize, usize), Fault> {
         let tape = Tape::open(&ELEMENTS, b"ahi", &OFFSETS)?;

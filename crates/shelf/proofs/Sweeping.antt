@@ -1,13 +1,13 @@
 -- What is free of a page, what clearing it leaves, and one more end.
-use Rattle.std.proofs.Common.{◌≡◌, ℕ, zero, suc, ◌+◌, ◌-◌, ◌*◌, ◌%◌, ◌<◌, ◌≤◌, List, [], ◌∷◌, ◌++◌, length, take, drop, replicate, Ok, sym, refl, ap, ◌∙◌, subst, ap₂, inl, inr, arith, length-append, length-take-le, length-drop, take-append-drop, drop_at}
+use Rattle.std.proofs.Common.{◌≡◌, ℕ, zero, suc, ◌+◌, ◌-◌, ◌*◌, ◌%◌, ◌<◌, ◌≤◌, List, [], ◌∷◌, ◌++◌, length, take, drop, replicate, Ok, sym, refl, ap, ◌∙◌, subst, ap₂, inl, inr, zero-add, arith, length-append, length-take-le, length-drop, take-append-drop, drop_at}
 use lib.Dec.{eqb-suc-zero}
 use lib.ListN.{length-replicate}
 use lib.Seq.{drop-length}
 use native.Mathlib.Nat.{sub_self, sub-zero}
 use borrow.Rule.Slice.PartMut.{put_mid}
 use borrow.Rule.Slice.PartAt.{part_to_end}
-use Rattle.std.proofs.Math.Seq.{get_or-append_seam}
-use Rattle.std.proofs.lemmas.List.{get_or_append_left}
+use Rattle.std.proofs.Math.Seq.{get_or-append_seam, take-append_seam}
+use Rattle.std.proofs.lemmas.List.{get_or_append_left, append_assoc, drop-replicate}
 use Rattle.std.proofs.lemmas.Bool.{cases_lt}
 use Rattle.octets.specs.Lists.{splice}
 use Rattle.schema.specs.Tree.{Node, field_of, nodes}
@@ -15,11 +15,12 @@ use Rattle.schema.specs.declared.Schema.{Schema}
 use Rattle.schema.specs.Opened.{TreeOf, Opened}
 use Rattle.tape.specs.View.{TapeView}
 use Rattle.batch.specs.Values.{Setup}
+use Rattle.batch.specs.Batch.{bytes_of}
 use Rattle.leaf.specs.Meaning.{Meaning}
 use Rattle.laws.specs.Shelf.{Held}
 use Rattle.nodes.specs.Contract.{setup_of}
 use Rattle.nodes.proofs.Cols.{walk_end}
-use Rattle.shelf.specs.Standing.{start_in, Fits, Holds, Writes}
+use Rattle.shelf.specs.Standing.{start_in, Fits, ZerosFrom, Holds, Writes}
 use Rattle.shelf.specs.declared.Shelf.{Shelf}
 use Rattle.shelf.specs.Shelves.{setup_in, OfHeld, Keeps}
 use Rattle.shelf.proofs.Holding.{zeroed, page_size, used_is, free_is, free_zero, starts_inside, fresh_now, holds_none}
@@ -75,6 +76,36 @@ end_within P {from} schema l k o w =
     let fits = size_within (w o.0 o.1) in
     (omega (arith, long, fits), omega (arith, long, fits))
 
+-- zeros behind something
+clear_behind : (xs : List ℕ) (n : ℕ) → ZerosFrom (xs ++ replicate n 0) (length xs)
+clear_behind xs n =
+    let long : length (xs ++ replicate n 0) ≡ length xs + n = length-append xs (replicate n 0) ∙ ap (λ k. length xs + k) (length-replicate {A = ℕ} n 0) in
+    let left : length (xs ++ replicate n 0) - length xs ≡ n = omega (arith, long) in
+    sym (swept_is (xs ++ replicate n 0) (length xs) (omega (arith, long)) ∙ ap₂ (λ a k. a ++ replicate {A = ℕ} k 0) (take-append_seam xs (replicate n 0)) left)
+
+zeros_behind : {bytes : List ℕ} {from : ℕ} (xs : List ℕ) (n : ℕ) → bytes ≡ xs ++ replicate n 0 → from ≡ length xs → ZerosFrom bytes from
+zeros_behind {bytes} {from} xs n e l = subst (λ b. ZerosFrom b from) (sym e) (subst (λ k. ZerosFrom (xs ++ replicate n 0) k) (sym l) (clear_behind xs n))
+
+-- what is free stays clear behind a batch that was written
+pub clear_after : (P : List ℕ) {from lent size : ℕ} {st : Setup} {t : TapeView} {ps to : List ℕ} → from ≤ length P → ZerosFrom P from → Writes st t ps lent (free_part P from) to (Ok size) → length to ≡ length (free_part P from)
+    → ZerosFrom (put_mid from (length P - from) P to) (from + size)
+clear_after P {from} {lent} {size} {st} {t} {ps} {to} l clear w long =
+    let B = bytes_of st w.content.0 in
+    let A = free_part P from in
+    let area : A ≡ replicate (length A) 0 = free_clear P from l clear in
+    let rest : length A ≡ length P - from = ap length (part_to_end P from) ∙ length-drop from P in
+    let left : drop (length B) A ≡ replicate (length A - length B) 0 = ap (drop (length B)) area ∙ drop-replicate (length B) (length A) 0 in
+    let is : to ≡ B ++ replicate (length A - length B) 0 = w.content.3 ∙ ap (λ n. B ++ drop n A) (zero-add (length B)) ∙ ap (λ z. B ++ z) left in
+    zeros_behind (take from P ++ B) (length A - length B)
+    (put_back P from to l (long ∙ rest) ∙ ap (λ z. take from P ++ z) is ∙ sym (append_assoc (take from P) B (replicate (length A - length B) 0)))
+    (omega (arith, length-append (take from P) B, length-take-le from P l, w.content.2))
+
+-- and where the newest batch was
+pub clear_before : (P : List ℕ) (from to : ℕ) → from ≤ to → to ≤ length P → ZerosFrom P to → ZerosFrom (splice P from (replicate (to - from) 0)) from
+clear_before P from to a b clear =
+    let rest : drop to P ≡ replicate (length P - to) 0 = ap (drop to) (clear ∙ swept_is P to b) ∙ drop_at (take to P) (replicate (length P - to) 0) to (length-take-le to P b) in
+    zeros_behind (take from P) (length P - from) (zeroed P from to (length P) a b rest) (sym (length-take-le from P (omega arith)))
+
 -- one more end, behind the last
 module _ (ends : List ℕ) (e : ℕ) where
   start_in_more : (i : ℕ) → i ≤ length ends → start_in (ends ++ (e ∷ [])) i ≡ start_in ends i
@@ -83,6 +114,10 @@ module _ (ends : List ℕ) (e : ℕ) where
 
   start_in_last : start_in (ends ++ (e ∷ [])) (suc (length ends)) ≡ e
   start_in_last = let z : suc (length ends) - 1 ≡ length ends = omega arith in rw (eqb-suc-zero (length ends), z) (get_or-append_seam ends e [] 0)
+
+  -- behind it is what is free
+  pub free_more : start_in (ends ++ (e ∷ [])) (length (ends ++ (e ∷ []))) ≡ e
+  free_more = let n : length (ends ++ (e ∷ [])) ≡ suc (length ends) = length-append ends (e ∷ []) ∙ omega arith in ap (start_in (ends ++ (e ∷ []))) n ∙ start_in_last
 
   pub more_inside : {size : ℕ} → e ≤ size → ((i : ℕ) → i ≤ length ends → start_in ends i ≤ size) → (i : ℕ) → i ≤ length (ends ++ (e ∷ [])) → start_in (ends ++ (e ∷ [])) i ≤ size
   more_inside {size} k h i l = elim (cases_lt (length ends) i) [

@@ -1,6 +1,6 @@
 -- What a shelf holds, by its fields.
 use Rattle.std.specs.Prelude.{◌≡◌, ℕ, ◌-◌, ◌*◌, ◌^◌, ◌<◌, ◌≤◌, ◌⊎◌, List, length, replicate}
-use Rattle.slip.specs.Slips.{Got}
+use Rattle.slip.specs.Slips.{Got, refuse, slip, then}
 use Rattle.octets.specs.Lists.{splice}
 use Rattle.schema.specs.Tree.{Node}
 use Rattle.schema.specs.Opened.{size_of}
@@ -32,7 +32,7 @@ swept shelf = splice shelf.page.now (free_from shelf) (replicate (length shelf.p
 abbrev pub HoldsSwept : {X : Type 0} (st : Setup) → Shelf X → Held st → Type 0
 HoldsSwept st shelf held = Holds st shelf.schema (swept shelf) shelf.ends.items held
 
--- so many positions and entries of a work list may come, there is another batch, and its records have space
+-- so many positions and entries of a work list may come, there may be another batch, and its records have space
 pub record Room {X : Type 0} (shelf : Shelf X) (positions lent : ℕ) : Type 0 where
   pub positions_few : positions ≤ 65535
   pub lent_few : lent ≤ 2 ^ 24
@@ -68,3 +68,9 @@ pub record Keeps {X : Type 0} (old new : Shelf X) : Type 0 where
 pub record Refused {X : Type 0} (old new : Shelf X) : Type 0 where
   pub batches : new.ends.items ≡ old.ends.items
   pub page : (new.page.now ≡ old.page.now) ⊎ (new.page.now ≡ swept old)
+
+-- on a page that does not fit, no batch is added and no byte is written: a bad position is refused, and then the page is full
+pub record Unfit {X : Type 0} (old new : Shelf X) (bad : Got (Unit {0})) (is : Got ℕ) : Type 0 where
+  pub answered : is ≡ then bad (λ _. refuse (slip 4 0 0))
+  pub batches : new.ends.items ≡ old.ends.items
+  pub page : new.page.now ≡ old.page.now

@@ -10,7 +10,7 @@ ghost use Rattle.batch.specs.Cells.{triple};
 ghost use Rattle.laws.specs.Shelf.{bad_position, is_full, shelve, used};
 ghost use Rattle.laws.specs.Calls.{Shelve, Release, cell_at, release, count};
 ghost use Rattle.nodes.specs.Contract.{setup_of};
-ghost use Rattle.shelf.specs.Standing.{start_in, Fits, Cleared, Writes, Fresh, shape_by};
+ghost use Rattle.shelf.specs.Standing.{start_in, Fits, ZerosFrom, Cleared, Writes, Fresh, shape_by};
 
 use arrayvec::ArrayVec;
 use batch::cell::{Shape, cell};
@@ -130,15 +130,19 @@ pub struct Shelf<'p, 'a, X> {
     custom: &'a X,
     // Where each batch ends.
     ends: ArrayVec<u32, 64>,
+    // Whether it is known that what is free of the page is clear.
+    clear: bool,
     pub ghost few: { length ends.items ≤ 64 },
     pub ghost inside: { (i : ℕ) → i ≤ length ends.items → start_in ends.items i ≤ length page.now },
     pub ghost rising: { (i : ℕ) → i < length ends.items → start_in ends.items i ≤ start_in ends.items (i + 1) },
+    pub ghost cleared: { IsTrue clear → Fits (length page.now) × ZerosFrom page.now (start_in ends.items (length ends.items)) },
 }
 
 impl<'p, 'a, X: Leaf> Shelf<'p, 'a, X> {
-    ghost use Rattle.shelf.specs.Shelves.{HoldsIn, HoldsSwept, Stands, OfHeld, OfSwept, DoesIn, Keeps, Refused, Room, swept};
+    ghost use Rattle.shelf.specs.Shelves.{HoldsIn, HoldsSwept, Stands, OfHeld, OfSwept, DoesIn, Keeps, Refused, Unfit, Room, free_from, swept};
 
-    // A shelf on a page, which holds nothing. No byte is written: the page is to be clear, or the first Shelve clears it.
+    // A shelf on a page, which holds nothing. No byte is written: where the page fits and is not clear, the first `shelve`
+    // clears it.
     pub fn new(
         page: &'p mut [u8],
         schema: Schema<'a>,
@@ -159,6 +163,7 @@ impl<'p, 'a, X: Leaf> Shelf<'p, 'a, X> {
             settings,
             custom,
             ends: ArrayVec::new(),
+            clear: false,
         }
     }
 
@@ -192,7 +197,7 @@ impl<'p, 'a, X: Leaf> Shelf<'p, 'a, X> {
 
     // How many bytes are free.
     fn free(&self) -> usize
-        ensures value { result ≡ length self.now.page.now - start_in self.now.ends.items (length self.now.ends.items) }
+        ensures value { result ≡ length self.now.page.now - free_from self.now }
         ensures held { OfHeld X.Leaf.meaning self.now (λ st held. result ≡ st.size - used st held) }
     {
         self.page.len() - self.end()
@@ -209,7 +214,8 @@ impl<'p, 'a, X: Leaf> Shelf<'p, 'a, X> {
             || self.free() < 32 * self.schema.len()
     }
 
-    // Clears what is free of the page, and answers whether the page fits; one that does not is left as it is.
+    // Clears what is free of the page, unless it is clear, and answers whether the page fits; one that does not is left as it
+    // is.
     fn sweep(&mut self) -> bool
         ensures fits { Decides result (Fits (length self.old.page.now)) }
         ensures swept { IsTrue result → self.new.page.now ≡ swept self.old }
@@ -217,12 +223,16 @@ impl<'p, 'a, X: Leaf> Shelf<'p, 'a, X> {
         ensures batches { self.new.ends.items ≡ self.old.ends.items }
         ensures keeps { Keeps self.old self.new }
     {
+        if self.clear {
+            return true;
+        }
         let size = self.page.len();
         if !fits(size) {
             return false;
         }
         let end = self.end();
         zero(&mut *self.page, end, size);
+        self.clear = true;
         true
     }
 
@@ -235,7 +245,7 @@ impl<'p, 'a, X: Leaf> Shelf<'p, 'a, X> {
     ) -> Result<usize, Fault>
         requires fine { got tt ≡ bad_position (view_of tape) 0 positions.now }
         requires small { length self.old.page.now ≤ 2 ^ 24 }
-        requires swept { self.old.page.now ≡ swept self.old }
+        requires clear { ZerosFrom self.old.page.now (free_from self.old) }
         ensures does { OfHeld X.Leaf.meaning self.old (λ st held. DoesIn st held self.new (Shelve (view_of tape.entry) positions.now (length work.old)) (shelve st held (view_of tape.entry) positions.now (length work.old)) (answer_of result)) }
         ensures refused { IfErr result (λ _. (self.new.ends.items ≡ self.old.ends.items) × (self.new.page.now ≡ self.old.page.now)) }
         ensures keeps { Keeps self.old self.new }
@@ -260,8 +270,8 @@ impl<'p, 'a, X: Leaf> Shelf<'p, 'a, X> {
         Ok(number)
     }
 
-    // Adds a batch of the rows at some positions, and answers its number. What is free of the page is cleared first, so it
-    // may hold anything; a page that does not fit is full. The work list holds zeros afterwards.
+    // Adds a batch of the rows at some positions, and answers its number. What is free of the page is cleared first, where it
+    // is not known to be clear, so it may hold anything; a page that does not fit is full. The work list holds zeros afterwards.
     pub fn shelve<S: StructRowsOf<'a>>(
         &mut self,
         tape: Tape<'a>,
@@ -271,6 +281,7 @@ impl<'p, 'a, X: Leaf> Shelf<'p, 'a, X> {
         ensures does { OfHeld X.Leaf.meaning self.old (λ st held. DoesIn st held self.new (Shelve (view_of tape.entry) positions.now (length work.old)) (shelve st held (view_of tape.entry) positions.now (length work.old)) (answer_of result)) }
         ensures swept { OfSwept X.Leaf.meaning self.old (λ st held. DoesIn st held self.new (Shelve (view_of tape.entry) positions.now (length work.old)) (shelve st held (view_of tape.entry) positions.now (length work.old)) (answer_of result)) }
         ensures refused { IfErr result (λ _. Refused self.old self.new) }
+        ensures unfit { (Fits (length self.old.page.now) → ⊥) → Unfit self.old self.new (bad_position (view_of tape.entry) 0 positions.now) (answer_of result) }
         ensures zeroed { work.new ≡ replicate (length work.old) 0 }
         ensures keeps { Keeps self.old self.new }
     {
@@ -330,7 +341,9 @@ impl<'p, 'a, X: Leaf> Shelf<'p, 'a, X> {
 
     // Batches held, and free bytes.
     pub fn count(&self) -> (usize, usize)
-        ensures { OfHeld X.Leaf.meaning self.now (λ st held. result ≡ count st held) }
+        ensures held { OfHeld X.Leaf.meaning self.now (λ st held. result ≡ count st held) }
+        ensures batches { result.0 ≡ length self.now.ends.items }
+        ensures free { result.1 ≡ length self.now.page.now - free_from self.now }
     {
         (self.ends.len(), self.free())
     }

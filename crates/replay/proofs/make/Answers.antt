@@ -1,8 +1,8 @@
 use Rattle.std.proofs.Common.{length, take, Err, sym, refl, ap, ◌∙◌, subst, length-take}
 use Rattle.std.proofs.lemmas.Result.{err_from_is_err_and}
-use Rattle.slip.specs.Slips.{Got, refuse, got, then, slip_of}
+use Rattle.slip.specs.Slips.{refuse, got, then, slip_of}
 use Rattle.tape.specs.Opened.{view_of}
-use Rattle.laws.specs.Calls.{Cell, cell_at}
+use Rattle.laws.specs.Calls.{Cell, Release, batch, cell_at}
 use Rattle.shelf.specs.Shelves.{setup_in}
 use Rattle.replay.specs.Replay.{said, view_in, Asks, ShelveFrom}
 use Rattle.replay.proofs.Replays.{shelved, lent_is, cell_said, cell_refused}
@@ -45,4 +45,12 @@ returns-in_ok-kind-in-Cell-clause-makes g c = λ root size held h.
       call,
       subst (λ l. Asks (length c.args.work.now) l call) (sym c.in-Cell.is) refl,
       record { answered = cell_said (cell_at (setup_in g.X.Leaf.meaning c.args.shelf.now root size) held c.in-Cell.batch c.in-Cell.node c.in-Cell.slot) _ _ _ (c.in_ok-kind-in-Cell.ensures root size held h); holds = h },
+    )
+
+pub returns-in_ok-release-in-Release-clause-makes : goal.returns-in_ok-release-in-Release-clause-makes
+returns-in_ok-release-in-Release-clause-makes g c = λ root size held h.
+    let d = c.in_ok-release-in-Release.ensures.does root size held h in (
+      Release,
+      subst (λ l. Asks (length c.args.work.now) l Release) (sym c.in-Release.is) refl,
+      record { answered = ap (λ m. then m (λ n. got (batch n))) d.answered; holds = d.holds },
     )

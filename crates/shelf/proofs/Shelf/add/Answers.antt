@@ -1,16 +1,15 @@
-use Rattle.std.proofs.Common.{◌≡◌, ℕ, ◌+◌, ◌-◌, ◌<◌, ◌≤◌, [], ◌∷◌, length, replicate, Err, IfErr, refl, sym, ap, ◌∙◌, subst, arith, rules, length-append, length-drop}
+use Rattle.std.proofs.Common.{◌≡◌, ℕ, ◌+◌, ◌-◌, ◌<◌, ◌≤◌, [], ◌∷◌, length, Err, IfErr, refl, sym, ap, ◌∙◌, subst, arith, rules, length-append, length-drop}
 use borrow.Rule.Slice.PartMut.{put_mid}
 use borrow.Rule.Slice.PartAt.{part_to_end}
 use Rattle.std.proofs.lemmas.Result.{err_from_is_err_and}
 use Rattle.slip.specs.Slips.{answer_of, got}
-use Rattle.octets.specs.Lists.{splice}
 use Rattle.tape.specs.Opened.{view_of}
 use Rattle.laws.specs.Calls.{Shelve, after}
-use Rattle.shelf.specs.Standing.{start_in, Holds}
+use Rattle.shelf.specs.Standing.{start_in, Fits, ZerosFrom, Holds}
 use Rattle.shelf.specs.Shelves.{setup_in}
 use Rattle.shelf.proofs.Positions.{none_bad}
 use Rattle.shelf.proofs.Adding.{free_part, adds_none, adds}
-use Rattle.shelf.proofs.Sweeping.{free_clear, put_nothing, end_within, more_inside, more_rising}
+use Rattle.shelf.proofs.Sweeping.{free_clear, put_nothing, end_within, clear_after, free_more, more_inside, more_rising}
 use Rattle.shelf.proofs.Shelf.add.Goals as goal
 
 pub invariant_of-rows : goal.invariant_of-rows
@@ -22,13 +21,13 @@ write-requires g c =
     let bytes = c.args.self.now.page.now in
     let from = c.end-from.result in
     let long : length (free_part bytes from) ≡ length bytes - from = ap length (part_to_end bytes from) ∙ length-drop from bytes in
-    let swept = subst (λ n. bytes ≡ splice bytes n (replicate (length bytes - n) 0)) (sym c.end-from.ensures.value) c.requires.swept in
+    let clear = subst (ZerosFrom bytes) (sym c.end-from.ensures.value) c.requires.clear in
     record {
       few = omega (arith, room.positions_few);
       lent = room.lent_few;
       small = omega (arith, long, c.requires.small);
       records = omega (arith, long, room.records, c.end-from.ensures.value);
-      free = free_clear bytes from c.end-from.ensures.within swept;
+      free = free_clear bytes from c.end-from.ensures.within clear;
     }
 
 pub invariant_of-self : goal.invariant_of-self
@@ -36,7 +35,7 @@ invariant_of-self g c =
     let self = c.args.self.now in
     let o = self.schema.opened in
     let same = put_nothing self.page.now c.end-from.result c.end-from.ensures.within (c.in_err-size.ensures o.0 0 o.1).unwritten in
-    record { few = self.few; inside = λ i l. omega (arith, self.inside i l, ap length same); rising = self.rising }
+    record { few = self.few; inside = λ i l. omega (arith, self.inside i l, ap length same); rising = self.rising; cleared = λ e. (subst (λ k. Fits k) (sym (ap length same)) (self.cleared e).0, subst (λ b. ZerosFrom b (start_in self.ends.items (length self.ends.items))) (sym same) (self.cleared e).1) }
 
 pub returns-in_err-size-clause-does : goal.returns-in_err-size-clause-does
 returns-in_err-size-clause-does g c = λ root size held h.
@@ -76,6 +75,11 @@ invariant_of-self-2 g c =
       few = omega (arith, ap length c.push.ensures.items ∙ length-append self.ends.items (end ∷ []), room.another);
       inside = subst (λ es. (i : ℕ) → i ≤ length es → start_in es i ≤ length page) (sym c.push.ensures.items) (more_inside self.ends.items end (omega (arith, n.0, long)) (λ i l. omega (arith, self.inside i l, long)));
       rising = subst (λ es. (i : ℕ) → i < length es → start_in es i ≤ start_in es (i + 1)) (sym c.push.ensures.items) (more_rising self.ends.items end (omega (arith, c.end-from.ensures.value)) self.rising);
+      cleared = λ e.
+          let last : start_in c.push.new.self.items (length c.push.new.self.items) ≡ end = ap (λ es. start_in es (length es)) c.push.ensures.items ∙ free_more self.ends.items end in (
+            subst (λ k. Fits k) (sym long) (self.cleared e).0,
+            subst (ZerosFrom page) (sym last) (clear_after self.page.now c.end-from.ensures.within (subst (ZerosFrom self.page.now) (sym c.end-from.ensures.value) (self.cleared e).1) (c.in_ok-size.ensures self.schema.opened.0 0 self.schema.opened.1) c.write.auto.area),
+          );
     }
 
 pub returns-clause-does : goal.returns-clause-does

@@ -5,7 +5,7 @@ use Rattle.shelf.proofs.Sweeping.{holds_none_swept}
 use Rattle.shelf.proofs.Shelf.new.Goals as goal
 
 pub invariant_of-result : goal.invariant_of-result
-invariant_of-result g c = record { few = omega (arith, ap length c.new.ensures); inside = none_inside c.new.result.items c.new.ensures; rising = none_rising c.new.result.items c.new.ensures }
+invariant_of-result g c = record { few = omega (arith, ap length c.new.ensures); inside = none_inside c.new.result.items c.new.ensures; rising = none_rising c.new.result.items c.new.ensures; cleared = λ e. absurd cc }
 
 pub returns-clause-holds : goal.returns-clause-holds
 returns-clause-holds g c = λ root tree fresh.
