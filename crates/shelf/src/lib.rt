@@ -1,8 +1,8 @@
 // A shelf: a page of bytes that holds batches end to end.
 #![tactic(auto)]
 
-ghost use Rattle.std.specs.Prelude.{◌≡◌, ℕ, ◌+◌, ◌-◌, ◌*◌, ◌^◌, ◌<◌, ◌≤◌, [], length, replicate, Decides, IfErr, IsTrue, IsFalse};
-ghost use Rattle.slip.specs.Slips.{answer_of, then, got};
+ghost use Rattle.std.specs.Prelude.{◌≡◌, ℕ, ◌+◌, ◌-◌, ◌*◌, ◌^◌, ◌<◌, ◌≤◌, [], length, replicate, Decides, IfOk, IfErr, IsTrue, IsFalse, cond, take, ◌==◌};
+ghost use Rattle.slip.specs.Slips.{Slip, answer_of, then, got, refuse, not_there};
 ghost use Rattle.tape.specs.Opened.{view_of};
 ghost use Rattle.schema.specs.Tree.{Node, kind_of};
 ghost use Rattle.schema.specs.Opened.{TreeOf, NodeOf, size_of};
@@ -247,6 +247,7 @@ impl<'p, 'a, X: Leaf> Shelf<'p, 'a, X> {
         requires small { length self.old.page.now ≤ 2 ^ 24 }
         requires clear { ZerosFrom self.old.page.now (free_from self.old) }
         ensures does { OfHeld X.Leaf.meaning self.old (λ st held. DoesIn st held self.new (Shelve (view_of tape.entry) positions.now (length work.old)) (shelve st held (view_of tape.entry) positions.now (length work.old)) (answer_of result)) }
+        ensures added { IfOk result (λ n. (n ≡ length self.old.ends.items) × (length self.new.ends.items ≡ n + 1)) }
         ensures refused { IfErr result (λ _. (self.new.ends.items ≡ self.old.ends.items) × (self.new.page.now ≡ self.old.page.now)) }
         ensures keeps { Keeps self.old self.new }
     {
@@ -271,7 +272,8 @@ impl<'p, 'a, X: Leaf> Shelf<'p, 'a, X> {
     }
 
     // Adds a batch of the rows at some positions, and answers its number. What is free of the page is cleared first, where it
-    // is not known to be clear, so it may hold anything; a page that does not fit is full. The work list holds zeros afterwards.
+    // is not known to be clear, so it may hold anything; a page that does not fit is full, where no position is bad. The work
+    // list holds zeros afterwards.
     pub fn shelve<S: StructRowsOf<'a>>(
         &mut self,
         tape: Tape<'a>,
@@ -280,6 +282,8 @@ impl<'p, 'a, X: Leaf> Shelf<'p, 'a, X> {
     ) -> Result<usize, Fault>
         ensures does { OfHeld X.Leaf.meaning self.old (λ st held. DoesIn st held self.new (Shelve (view_of tape.entry) positions.now (length work.old)) (shelve st held (view_of tape.entry) positions.now (length work.old)) (answer_of result)) }
         ensures swept { OfSwept X.Leaf.meaning self.old (λ st held. DoesIn st held self.new (Shelve (view_of tape.entry) positions.now (length work.old)) (shelve st held (view_of tape.entry) positions.now (length work.old)) (answer_of result)) }
+        ensures added { IfOk result (λ n. (n ≡ length self.old.ends.items) × (length self.new.ends.items ≡ n + 1)) }
+        ensures bad { (s : Slip) → bad_position (view_of tape.entry) 0 positions.now ≡ refuse s → answer_of result ≡ refuse s }
         ensures refused { IfErr result (λ _. Refused self.old self.new) }
         ensures unfit { (Fits (length self.old.page.now) → ⊥) → Unfit self.old self.new (bad_position (view_of tape.entry) 0 positions.now) (answer_of result) }
         ensures zeroed { work.new ≡ replicate (length work.old) 0 }
@@ -314,7 +318,10 @@ impl<'p, 'a, X: Leaf> Shelf<'p, 'a, X> {
     // What stands in a slot of a node of a batch.
     // The answer is the three numbers of a `Content`, a kind and two that belong to it: callers of other languages read it.
     pub fn cell(&self, batch: usize, node: usize, slot: usize) -> Result<(u32, usize, usize), Fault>
-        ensures { OfHeld X.Leaf.meaning self.now (λ st held. answer_of result ≡ then (cell_at st held batch node slot) (λ c. got (triple c))) }
+        ensures behind { length self.now.ends.items ≤ batch → answer_of result ≡ refuse not_there }
+        ensures nowhere { size_of self.now.schema ≤ node → answer_of result ≡ refuse not_there }
+        ensures kinds { IfOk result (λ c. c.0 ≤ 4) }
+        ensures held { OfHeld X.Leaf.meaning self.now (λ st held. answer_of result ≡ then (cell_at st held batch node slot) (λ c. got (triple c))) }
     {
         if batch >= self.ends.len() || node >= self.schema.len() {
             return Err(Fault::NotThere);
@@ -328,6 +335,8 @@ impl<'p, 'a, X: Leaf> Shelf<'p, 'a, X> {
     // Frees the newest batch, and answers its number.
     pub fn release(&mut self) -> Result<usize, Fault>
         ensures does { OfHeld X.Leaf.meaning self.old (λ st held. DoesIn st held self.new Release (release st held) (answer_of result)) }
+        ensures said { answer_of result ≡ cond (length self.old.ends.items == 0) (refuse not_there) (got (length self.old.ends.items - 1)) }
+        ensures ends { self.new.ends.items ≡ take (length self.old.ends.items - 1) self.old.ends.items }
         ensures keeps { Keeps self.old self.new }
     {
         let Some(newest) = self.ends.len().checked_sub(1) else {

@@ -36,7 +36,7 @@ returns-in_err-kind-in-Cell-clause-makes g c = λ root size held h.
     let call = Cell c.in-Cell.batch c.in-Cell.node c.in-Cell.slot in (
       call,
       subst (λ l. Asks (length c.args.work.now) l call) (sym c.in-Cell.is) refl,
-      record { answered = ap said (p.1 ∙ ap Err p.2) ∙ cell_refused (cell_at (setup_in g.X.Leaf.meaning c.args.shelf.now root size) held c.in-Cell.batch c.in-Cell.node c.in-Cell.slot) _ (c.in_err-kind-in-Cell.ensures root size held h); holds = h },
+      record { answered = ap said (p.1 ∙ ap Err p.2) ∙ cell_refused (cell_at (setup_in g.X.Leaf.meaning c.args.shelf.now root size) held c.in-Cell.batch c.in-Cell.node c.in-Cell.slot) _ (c.in_err-kind-in-Cell.ensures.held root size held h); holds = h },
     )
 
 pub returns-in_ok-kind-in-Cell-clause-makes : goal.returns-in_ok-kind-in-Cell-clause-makes
@@ -44,7 +44,7 @@ returns-in_ok-kind-in-Cell-clause-makes g c = λ root size held h.
     let call = Cell c.in-Cell.batch c.in-Cell.node c.in-Cell.slot in (
       call,
       subst (λ l. Asks (length c.args.work.now) l call) (sym c.in-Cell.is) refl,
-      record { answered = cell_said (cell_at (setup_in g.X.Leaf.meaning c.args.shelf.now root size) held c.in-Cell.batch c.in-Cell.node c.in-Cell.slot) _ _ _ (c.in_ok-kind-in-Cell.ensures root size held h); holds = h },
+      record { answered = cell_said (cell_at (setup_in g.X.Leaf.meaning c.args.shelf.now root size) held c.in-Cell.batch c.in-Cell.node c.in-Cell.slot) _ _ _ (c.in_ok-kind-in-Cell.ensures.held root size held h); holds = h },
     )
 
 pub returns-in_ok-release-in-Release-clause-makes : goal.returns-in_ok-release-in-Release-clause-makes

@@ -13,8 +13,8 @@ use Rattle.shelf.proofs.Shapes.{shape_is}
 use Rattle.shelf.proofs.Cells.{cell-at}
 use Rattle.shelf.proofs.Shelf.cell.Goals as goal
 
-pub returns-in_err-content : goal.returns-in_err-content
-returns-in_err-content g c = λ root size held h.
+pub returns-in_err-content-clause-held : goal.returns-in_err-content-clause-held
+returns-in_err-content-clause-held g c = λ root size held h.
     let st = setup_in g.X.Leaf.meaning c.args.self.now root size in
     let there : c.args.node < record_count (records_of c.args.self.now.schema) = omega (arith, c.len-else-batch-len.ensures.said) in
     let p = err_from_is_err_and c.from_residual.result c.from_residual.ensures.1 in
@@ -26,8 +26,8 @@ returns-in_err-content g c = λ root size held h.
     (c.shape-shape.ensures (node_at root c.args.node) (held_at h.tree c.args.node there)
     ∙ ap (λ l. shape_by l (kind_of (node_at root c.args.node))) c.layout.ensures ∙ shape_is st (node_at root c.args.node)))
 
-pub returns : goal.returns
-returns g c = λ root size held h.
+pub returns-clause-held : goal.returns-clause-held
+returns-clause-held g c = λ root size held h.
     let st = setup_in g.X.Leaf.meaning c.args.self.now root size in
     let there : c.args.node < record_count (records_of c.args.self.now.schema) = omega (arith, c.len-else-batch-len.ensures.said) in
     ap got c.into.ensures
