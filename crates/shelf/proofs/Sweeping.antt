@@ -20,18 +20,18 @@ use Rattle.leaf.specs.Meaning.{Meaning}
 use Rattle.laws.specs.Shelf.{Held}
 use Rattle.nodes.specs.Contract.{setup_of}
 use Rattle.nodes.proofs.Cols.{walk_end}
-use Rattle.shelf.specs.Standing.{start_in, Fits, ZerosFrom, Holds, Writes}
+use Rattle.shelf.specs.Standing.{start_in, Fits, cleared_from, ZerosFrom, Holds, Writes}
 use Rattle.shelf.specs.declared.Shelf.{Shelf}
 use Rattle.shelf.specs.Shelves.{setup_in, OfHeld, Keeps}
 use Rattle.shelf.proofs.Holding.{zeroed, page_size, used_is, free_is, free_zero, starts_inside, fresh_now, holds_none}
 use Rattle.shelf.proofs.Adding.{put_back, free_part}
 
 -- zeros from a place on
-pub swept_is : (P : List ℕ) (from : ℕ) → from ≤ length P → splice P from (replicate (length P - from) 0) ≡ take from P ++ replicate (length P - from) 0
+pub swept_is : (P : List ℕ) (from : ℕ) → from ≤ length P → cleared_from P from ≡ take from P ++ replicate (length P - from) 0
 swept_is P from l = zeroed P from (length P) (length P) l (omega arith) (drop-length P ∙ ap (λ n. replicate {A = ℕ} n 0) (sym (sub_self (length P))))
 
 -- what is free of a page that is as it is swept is clear
-pub free_clear : (P : List ℕ) (from : ℕ) → from ≤ length P → P ≡ splice P from (replicate (length P - from) 0) → free_part P from ≡ replicate (length (free_part P from)) 0
+pub free_clear : (P : List ℕ) (from : ℕ) → from ≤ length P → ZerosFrom P from → free_part P from ≡ replicate (length (free_part P from)) 0
 free_clear P from l e =
     let area : free_part P from ≡ drop from P = part_to_end P from in
     let long : length (free_part P from) ≡ length P - from = ap length area ∙ length-drop from P in
@@ -50,16 +50,16 @@ module _ {st : Setup} {schema : Schema} {bytes ends : List ℕ} {held : Held st}
   holds_fit = (omega (arith, page_size h, h.small), ap (λ n. n % 8) (page_size h) ∙ h.whole)
 
   -- and is as it is swept
-  pub holds_swept : bytes ≡ splice bytes (start_in ends (length ends)) (replicate (length bytes - start_in ends (length ends)) 0)
+  pub holds_swept : ZerosFrom bytes (start_in ends (length ends))
   holds_swept =
       let from = start_in ends (length ends) in
       let clear : drop from bytes ≡ replicate (length bytes - from) 0 = ap (λ n. drop n bytes) (used_is h) ∙ free_zero h ∙ ap (λ n. replicate {A = ℕ} n 0) (sym (free_is h)) in
       sym (take-append-drop from bytes) ∙ ap (λ z. take from bytes ++ z) clear ∙ sym (swept_is bytes from (starts_inside h (length ends) (omega arith)))
 
 -- and so it is where a page fits once it is swept
-pub fit_swept : {st : Setup} {schema : Schema} (bytes : List ℕ) {ends : List ℕ} {held : Held st} (from : ℕ) → from ≤ length bytes → Holds st schema (splice bytes from (replicate (length bytes - from) 0)) ends held → Fits (length bytes)
+pub fit_swept : {st : Setup} {schema : Schema} (bytes : List ℕ) {ends : List ℕ} {held : Held st} (from : ℕ) → from ≤ length bytes → Holds st schema (cleared_from bytes from) ends held → Fits (length bytes)
 fit_swept bytes from l h =
-    let long : length (splice bytes from (replicate (length bytes - from) 0)) ≡ length bytes =
+    let long : length (cleared_from bytes from) ≡ length bytes =
     ap length (swept_is bytes from l) ∙ length-append (take from bytes) (replicate (length bytes - from) 0) ∙ omega (arith, length-take-le from bytes l, length-replicate {A = ℕ} (length bytes - from) 0) in
     let fit = holds_fit h in
     (omega (arith, fit.0, long), ap (λ n. n % 8) (sym long) ∙ fit.1)
@@ -138,10 +138,10 @@ module _ (ends : List ℕ) (e : ℕ) where
 
 -- a new shelf holds nothing, once its page is cleared
 pub holds_none_swept : (st : Setup) (schema : Schema) (bytes ends : List ℕ) → TreeOf schema st.root → Fits (length bytes) → st.size ≡ length bytes → ends ≡ []
-    → Holds st schema (splice bytes (start_in ends (length ends)) (replicate (length bytes - start_in ends (length ends)) 0)) ends []
+    → Holds st schema (cleared_from bytes (start_in ends (length ends))) ends []
 holds_none_swept st schema bytes ends tree fit size none =
     let from : start_in ends (length ends) ≡ 0 = ap (λ es. start_in es (length es)) none in
-    let zeros : splice bytes (start_in ends (length ends)) (replicate (length bytes - start_in ends (length ends)) 0) ≡ replicate (length bytes) 0 =
+    let zeros : cleared_from bytes (start_in ends (length ends)) ≡ replicate (length bytes) 0 =
     ap (λ n. splice bytes n (replicate (length bytes - n) 0)) from ∙ swept_is bytes 0 (omega arith) ∙ ap (λ n. replicate {A = ℕ} n 0) (sub-zero (length bytes)) in
     let fresh = fresh_now fit zeros in
     holds_none st schema _ ends tree fresh (size ∙ sym (ap length zeros ∙ length-replicate {A = ℕ} (length bytes) 0)) none

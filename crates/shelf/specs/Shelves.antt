@@ -1,7 +1,6 @@
 -- What a shelf holds, by its fields.
-use Rattle.std.specs.Prelude.{◌≡◌, ℕ, ◌-◌, ◌*◌, ◌^◌, ◌<◌, ◌≤◌, ◌⊎◌, List, length, replicate}
+use Rattle.std.specs.Prelude.{◌≡◌, ℕ, ◌-◌, ◌*◌, ◌^◌, ◌<◌, ◌≤◌, ◌⊎◌, List, length, take}
 use Rattle.slip.specs.Slips.{Got, refuse, slip, then}
-use Rattle.octets.specs.Lists.{splice}
 use Rattle.schema.specs.Tree.{Node}
 use Rattle.schema.specs.Opened.{size_of}
 use Rattle.batch.specs.Values.{Setup}
@@ -9,7 +8,7 @@ use Rattle.laws.specs.Shelf.{Held}
 use Rattle.laws.specs.Calls.{Call}
 use Rattle.nodes.specs.Contract.{setup_of}
 use Rattle.leaf.specs.Meaning.{Meaning}
-use Rattle.shelf.specs.Standing.{start_in, Holds, Standing, Does}
+use Rattle.shelf.specs.Standing.{start_in, cleared_from, Holds, Standing, Does}
 use Rattle.shelf.specs.declared.Shelf.{Shelf}
 
 -- a shelf holds these
@@ -26,7 +25,21 @@ free_from shelf = start_in shelf.ends.items (length shelf.ends.items)
 
 -- the bytes of its page, once what is free is cleared
 abbrev pub swept : {X : Type 0} → Shelf X → List ℕ
-swept shelf = splice shelf.page.now (free_from shelf) (replicate (length shelf.page.now - free_from shelf) 0)
+swept shelf = cleared_from shelf.page.now (free_from shelf)
+
+-- how many bytes its page has, how many of them are free, and how many batches it keeps
+abbrev pub page_size : {X : Type 0} → Shelf X → ℕ
+page_size shelf = length shelf.page.now
+
+abbrev pub left : {X : Type 0} → Shelf X → ℕ
+left shelf = page_size shelf - free_from shelf
+
+abbrev pub kept : {X : Type 0} → Shelf X → ℕ
+kept shelf = length shelf.ends.items
+
+-- how many nodes its schema has
+abbrev pub nodes_in : {X : Type 0} → Shelf X → ℕ
+nodes_in shelf = size_of shelf.schema
 
 -- a shelf holds these, once what is free of its page is cleared
 abbrev pub HoldsSwept : {X : Type 0} (st : Setup) → Shelf X → Held st → Type 0
@@ -36,8 +49,8 @@ HoldsSwept st shelf held = Holds st shelf.schema (swept shelf) shelf.ends.items 
 pub record Room {X : Type 0} (shelf : Shelf X) (positions lent : ℕ) : Type 0 where
   pub positions_few : positions ≤ 65535
   pub lent_few : lent ≤ 2 ^ 24
-  pub another : length shelf.ends.items < 64
-  pub records : 32 * size_of shelf.schema ≤ length shelf.page.now - free_from shelf
+  pub another : kept shelf < 64
+  pub records : 32 * nodes_in shelf ≤ left shelf
 
 -- by the meaning of its custom leaf
 module _ {X : Type 0} (m : X → Meaning) (shelf : Shelf X) where
@@ -68,6 +81,10 @@ pub record Keeps {X : Type 0} (old new : Shelf X) : Type 0 where
 pub record Refused {X : Type 0} (old new : Shelf X) : Type 0 where
   pub batches : new.ends.items ≡ old.ends.items
   pub page : (new.page.now ≡ old.page.now) ⊎ (new.page.now ≡ swept old)
+
+-- the newest batch goes, if there is one, and those before it stay
+abbrev pub Freed : {X : Type 0} (old new : Shelf X) → Type 0
+Freed old new = new.ends.items ≡ take (kept old - 1) old.ends.items
 
 -- on a page that does not fit, no batch is added and no byte is written: a bad position is refused, and then the page is full
 pub record Unfit {X : Type 0} (old new : Shelf X) (bad : Got (Unit {0})) (is : Got ℕ) : Type 0 where

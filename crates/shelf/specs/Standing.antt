@@ -45,9 +45,13 @@ Standing s m schema bytes ends = (root : Node) × (size : ℕ) × (held : Held (
 abbrev pub Fits : (size : ℕ) → Type 0
 Fits size = (size ≤ 2 ^ 24) × (size % 8 ≡ 0)
 
+-- a page that is cleared from a place on
+abbrev pub cleared_from : (bytes : List ℕ) → (from : ℕ) → List ℕ
+cleared_from bytes from = splice bytes from (replicate (length bytes - from) 0)
+
 -- zeros lie on a page from a place on
 abbrev pub ZerosFrom : (bytes : List ℕ) → (from : ℕ) → Type 0
-ZerosFrom bytes from = bytes ≡ splice bytes from (replicate (length bytes - from) 0)
+ZerosFrom bytes from = bytes ≡ cleared_from bytes from
 
 -- a page on which a shelf can begin: at most 2^24 bytes, a multiple of 8, all zeros
 pub record Fresh (bytes : List ℕ) : Type 0 where

@@ -139,7 +139,7 @@ pub struct Shelf<'p, 'a, X> {
 }
 
 impl<'p, 'a, X: Leaf> Shelf<'p, 'a, X> {
-    ghost use Rattle.shelf.specs.Shelves.{HoldsIn, HoldsSwept, Stands, OfHeld, OfSwept, DoesIn, Keeps, Refused, Unfit, Room, free_from, swept};
+    ghost use Rattle.shelf.specs.Shelves.{HoldsIn, HoldsSwept, Stands, OfHeld, OfSwept, DoesIn, Keeps, Refused, Freed, Unfit, Room, free_from, swept, page_size, left, kept, nodes_in};
 
     // A shelf on a page, which holds nothing. No byte is written: where the page fits and is not clear, the first `shelve`
     // clears it.
@@ -197,7 +197,7 @@ impl<'p, 'a, X: Leaf> Shelf<'p, 'a, X> {
 
     // How many bytes are free.
     fn free(&self) -> usize
-        ensures value { result ≡ length self.now.page.now - free_from self.now }
+        ensures value { result ≡ left self.now }
         ensures held { OfHeld X.Leaf.meaning self.now (λ st held. result ≡ st.size - used st held) }
     {
         self.page.len() - self.end()
@@ -217,7 +217,7 @@ impl<'p, 'a, X: Leaf> Shelf<'p, 'a, X> {
     // Clears what is free of the page, unless it is clear, and answers whether the page fits; one that does not is left as it
     // is.
     fn sweep(&mut self) -> bool
-        ensures fits { Decides result (Fits (length self.old.page.now)) }
+        ensures fits { Decides result (Fits (page_size self.old)) }
         ensures swept { IsTrue result → self.new.page.now ≡ swept self.old }
         ensures left { IsFalse result → self.new.page.now ≡ self.old.page.now }
         ensures batches { self.new.ends.items ≡ self.old.ends.items }
@@ -244,10 +244,10 @@ impl<'p, 'a, X: Leaf> Shelf<'p, 'a, X> {
         work: &mut [u32],
     ) -> Result<usize, Fault>
         requires fine { got tt ≡ bad_position (view_of tape) 0 positions.now }
-        requires small { length self.old.page.now ≤ 2 ^ 24 }
+        requires small { page_size self.old ≤ 2 ^ 24 }
         requires clear { ZerosFrom self.old.page.now (free_from self.old) }
         ensures does { OfHeld X.Leaf.meaning self.old (λ st held. DoesIn st held self.new (Shelve (view_of tape.entry) positions.now (length work.old)) (shelve st held (view_of tape.entry) positions.now (length work.old)) (answer_of result)) }
-        ensures added { IfOk result (λ n. (n ≡ length self.old.ends.items) × (length self.new.ends.items ≡ n + 1)) }
+        ensures added { IfOk result (λ n. (n ≡ kept self.old) × (kept self.new ≡ n + 1)) }
         ensures refused { IfErr result (λ _. (self.new.ends.items ≡ self.old.ends.items) × (self.new.page.now ≡ self.old.page.now)) }
         ensures keeps { Keeps self.old self.new }
     {
@@ -282,10 +282,10 @@ impl<'p, 'a, X: Leaf> Shelf<'p, 'a, X> {
     ) -> Result<usize, Fault>
         ensures does { OfHeld X.Leaf.meaning self.old (λ st held. DoesIn st held self.new (Shelve (view_of tape.entry) positions.now (length work.old)) (shelve st held (view_of tape.entry) positions.now (length work.old)) (answer_of result)) }
         ensures swept { OfSwept X.Leaf.meaning self.old (λ st held. DoesIn st held self.new (Shelve (view_of tape.entry) positions.now (length work.old)) (shelve st held (view_of tape.entry) positions.now (length work.old)) (answer_of result)) }
-        ensures added { IfOk result (λ n. (n ≡ length self.old.ends.items) × (length self.new.ends.items ≡ n + 1)) }
+        ensures added { IfOk result (λ n. (n ≡ kept self.old) × (kept self.new ≡ n + 1)) }
         ensures bad { (s : Slip) → bad_position (view_of tape.entry) 0 positions.now ≡ refuse s → answer_of result ≡ refuse s }
         ensures refused { IfErr result (λ _. Refused self.old self.new) }
-        ensures unfit { (Fits (length self.old.page.now) → ⊥) → Unfit self.old self.new (bad_position (view_of tape.entry) 0 positions.now) (answer_of result) }
+        ensures unfit { (Fits (page_size self.old) → ⊥) → Unfit self.old self.new (bad_position (view_of tape.entry) 0 positions.now) (answer_of result) }
         ensures zeroed { work.new ≡ replicate (length work.old) 0 }
         ensures keeps { Keeps self.old self.new }
     {
@@ -318,8 +318,8 @@ impl<'p, 'a, X: Leaf> Shelf<'p, 'a, X> {
     // What stands in a slot of a node of a batch.
     // The answer is the three numbers of a `Content`, a kind and two that belong to it: callers of other languages read it.
     pub fn cell(&self, batch: usize, node: usize, slot: usize) -> Result<(u32, usize, usize), Fault>
-        ensures behind { length self.now.ends.items ≤ batch → answer_of result ≡ refuse not_there }
-        ensures nowhere { size_of self.now.schema ≤ node → answer_of result ≡ refuse not_there }
+        ensures behind { kept self.now ≤ batch → answer_of result ≡ refuse not_there }
+        ensures nowhere { nodes_in self.now ≤ node → answer_of result ≡ refuse not_there }
         ensures kinds { IfOk result (λ c. c.0 ≤ 4) }
         ensures held { OfHeld X.Leaf.meaning self.now (λ st held. answer_of result ≡ then (cell_at st held batch node slot) (λ c. got (triple c))) }
     {
@@ -335,8 +335,8 @@ impl<'p, 'a, X: Leaf> Shelf<'p, 'a, X> {
     // Frees the newest batch, and answers its number.
     pub fn release(&mut self) -> Result<usize, Fault>
         ensures does { OfHeld X.Leaf.meaning self.old (λ st held. DoesIn st held self.new Release (release st held) (answer_of result)) }
-        ensures said { answer_of result ≡ cond (length self.old.ends.items == 0) (refuse not_there) (got (length self.old.ends.items - 1)) }
-        ensures ends { self.new.ends.items ≡ take (length self.old.ends.items - 1) self.old.ends.items }
+        ensures said { answer_of result ≡ cond (kept self.old == 0) (refuse not_there) (got (kept self.old - 1)) }
+        ensures freed { Freed self.old self.new }
         ensures keeps { Keeps self.old self.new }
     {
         let Some(newest) = self.ends.len().checked_sub(1) else {
@@ -351,8 +351,8 @@ impl<'p, 'a, X: Leaf> Shelf<'p, 'a, X> {
     // Batches held, and free bytes.
     pub fn count(&self) -> (usize, usize)
         ensures held { OfHeld X.Leaf.meaning self.now (λ st held. result ≡ count st held) }
-        ensures batches { result.0 ≡ length self.now.ends.items }
-        ensures free { result.1 ≡ length self.now.page.now - free_from self.now }
+        ensures batches { result.0 ≡ kept self.now }
+        ensures free { result.1 ≡ left self.now }
     {
         (self.ends.len(), self.free())
     }
